@@ -22,12 +22,19 @@ fn decode_atom(counts: Counts, kind: u8, symbol: u8, first: u8, second: u8) -> O
     ensures { λ r. ⌜ r ≡ atom-read counts kind symbol first second ⌝ }
 {
     match kind {
-        0 if symbol == 0 => Some(Atom::Same(decode_term(counts, first)?, decode_term(counts, second)?)),
+        0 if symbol == 0 => Some(Atom::Same(
+            decode_term(counts, first)?,
+            decode_term(counts, second)?,
+        )),
         1 if symbol < counts.properties() && second == 0 => {
             Some(Atom::Prop(symbol, decode_term(counts, first)?))
         }
         2 if symbol < counts.relations() => {
-            Some(Atom::Rel(symbol, decode_term(counts, first)?, decode_term(counts, second)?))
+            Some(Atom::Rel(
+                symbol,
+                decode_term(counts, first)?,
+                decode_term(counts, second)?,
+            ))
         }
         _ => None,
     }
@@ -80,5 +87,4 @@ pub fn encode_literal(counts: Counts, l: Literal) -> Option<[u8; 5]>
 pub fn code_laws() -> ()
     ensures round { λ _. ⌜ Round ⌝ }
     ensures back { λ _. ⌜ Back ⌝ }
-{
-}
+{}

@@ -85,5 +85,4 @@ pub fn numbering_laws() -> ()
     ensures below { λ _. ⌜ Below-all ⌝ }
     ensures apart { λ _. ⌜ Apart ⌝ }
     ensures onto { λ _. ⌜ Onto ⌝ }
-{
-}
+{}

@@ -1,0 +1,3 @@
+// Tables of cases for the crate `syntax`.
+#[cfg(test)]
+mod tests;
