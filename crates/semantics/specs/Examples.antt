@@ -2,7 +2,7 @@
 use mathlib.Core.Path.{_≡_}
 use mathlib.Core.Bool.{Bool, true, false}
 use mathlib.Core.List.{List, [], _∷_}
-use Prim.Native.Nat.{ℕ}
+use Prim.Native.Nat.{ℕ, _<_}
 use Rattle.syntax.specs.declared.types.Term.{Term}
 use Rattle.syntax.specs.declared.types.Term.the-variants.{Name, Var}
 use Rattle.syntax.specs.declared.types.Atom.{Atom}
@@ -55,7 +55,7 @@ pub record Examples (c : Counts) : Type 0 where
   pub nothing-said : c .names ≡ 1 → Consistent c []
   pub not-itself : (a : ℕ) → Contradictory c (ne a a ∷ [])
   pub equal-names-differ : (a b p : ℕ) → Contradictory c (is a p ∷ isnt b p ∷ eq a b ∷ [])
-  pub two-values : (a b d r : ℕ) → Equal-names c (function r ∷ has a r b ∷ has a r d ∷ []) b d
+  pub two-values : (a b d r : ℕ) → a < c .names → b < c .names → d < c .names → Equal-names c (function r ∷ has a r b ∷ has a r d ∷ []) b d
   -- no clauses and two names
   pub two-names : c .names ≡ 2 → Open-names c [] 0 1 × Equal-names c [] 0 0
   pub chain : (p q s : ℕ) → Equal-books c (sub p q ∷ sub q s ∷ []) (sub p q ∷ sub q s ∷ sub p s ∷ [])

@@ -13,12 +13,12 @@ use Rattle.syntax.specs.declared.types.Refusal.{Refusal}
 use Rattle.syntax.specs.declared.counts.Counts.{Counts}
 use Rattle.syntax.specs.Lawful.{Lawful}
 use Rattle.syntax.specs.Numbers.{LawfulGround, number-of}
-use Rattle.semantics.specs.Meaning.{Clause, _∈_, AllLawful, Interpretation, Over, value, Assignment, Assigns, four, Satisfies, Model}
+use Rattle.semantics.specs.Meaning.{Clause, _∈_, AllLawful, Interpretation, Over, value, Assignment, Assigns, four, SomeHolds, Satisfies, Model}
 use Rattle.semantics.specs.Bytes.{Bytes-of, Congruent}
 use Rattle.semantics.specs.Branch.{Branch, mark-at, signed, tell, Agrees, Refuted, Linked, Alike, Clash, Denied, DeniedOr, SomeStands, Fulfilled, ClassTable, own}
 use Rattle.semantics.specs.Judgements.{Contradictory, Consistent, Always, Parted}
 use Rattle.semantics.specs.Suppositions.{unit, denials}
-use Rattle.semantics.specs.Checks.{Finding, Checked}
+use Rattle.semantics.specs.Checks.{Proper, Finding, Checked}
 use Rattle.semantics.specs.Examples.{Examples}
 
 -- THE OWN MODEL
@@ -151,6 +151,12 @@ abbrev pub Which-bytes : Type 0
 Which-bytes = (c : Counts) (bytes : List ℕ) → ((I : Interpretation) × Bytes-of c I bytes) ↔ Congruent c bytes
 
 -- CHECKING
+
+-- a clause is satisfied if some literal holds under every assignment of its own variables
+abbrev pub Own-variables : Type 0
+Own-variables =
+    (c : Counts) (I : Interpretation) (cl : Clause) →
+    ((σ : Assignment) → Proper c cl σ → SomeHolds I σ cl) → Satisfies c I cl
 
 -- a check has one answer
 abbrev pub One-answer : Type 0
