@@ -1,12 +1,11 @@
 -- A check has one answer; only the variables of a clause matter.
 use mathlib.Core.Path.{_≡_, refl, sym, ap, ap₂, subst, _∙_}
-use mathlib.Core.Bool.{Bool, true, false, cond, _||_}
+use mathlib.Core.Bool.{true, cond}
 use mathlib.Core.List.{List, [], _∷_}
 use mathlib.Core.Logic.{_⊎_, inl, inr, ⊎-elim}
 use Prim.Native.Nat.{ℕ, zero, suc, _<_}
 use native.Mathlib.Omega.{arith}
 use lib.ListN.{length, getD}
-use Rattle.std.specs.declared.result.Result.{Result}
 use Rattle.std.specs.declared.result.Result.the-variants.{Ok, Err}
 use Rattle.std.specs.shelf.Lists.{All}
 use Rattle.std.proofs.shelf.Elements.{all-has, all-getD, all-weaker, has-getD}
@@ -16,12 +15,11 @@ use Rattle.syntax.specs.declared.types.Term.the-variants.{Name, Var}
 use Rattle.syntax.specs.declared.types.Atom.{Atom}
 use Rattle.syntax.specs.declared.types.Atom.the-variants.{Same, Prop, Rel}
 use Rattle.syntax.specs.declared.types.Ground.the-variants.{Same as Same′, Prop as Prop′, Rel as Rel′}
-use Rattle.syntax.specs.declared.types.Literal.{Literal}
 use Rattle.syntax.specs.declared.counts.Counts.{Counts}
 use Rattle.syntax.specs.Lawful.{Lawful}
-use Rattle.semantics.specs.Meaning.{Clause, _∈_, AllLawful, Interpretation, value, Assignment, Assigns, four, name-at, ground, SomeHolds, Satisfies, Model}
+use Rattle.semantics.specs.Meaning.{Clause, AllLawful, Interpretation, value, Assignment, four, name-at, ground, Satisfies}
 use Rattle.semantics.specs.Bytes.{Bytes-of}
-use Rattle.semantics.specs.Checks.{term-uses, atom-uses, uses, Proper, Before, First-failing, Fails-at, Finding, satisfied, failing, Checked}
+use Rattle.semantics.specs.Checks.{term-uses, atom-uses, uses, Before, First-failing, Fails-at, satisfied, failing}
 use Rattle.semantics.specs.Theorems.{One-answer, Own-variables}
 use Rattle.semantics.proofs.Reading.{same-holds}
 

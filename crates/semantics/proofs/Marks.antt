@@ -1,16 +1,15 @@
 -- What is told on a branch, and what agrees with it.
 use mathlib.Core.Path.{_≡_, sym, ap, _∙_}
-use mathlib.Core.Bool.{Bool, true, false, not}
-use mathlib.Core.Logic.{_⊎_, inl, inr, ⊎-elim}
+use mathlib.Core.Bool.{Bool, not}
+use mathlib.Core.Logic.{_⊎_, ⊎-elim}
 use Prim.Native.Nat.{ℕ, _<_, _≤_}
 use native.Mathlib.Omega.{arith}
-use lib.ListN.{length, getD, set, length-set}
+use lib.ListN.{length, getD, length-set}
 use lib.Seq.{getD-set-same, getD-set-other}
 use Rattle.std.proofs.shelf.Lists.{getD-past}
 use Rattle.std.proofs.shelf.Tests.{cases-eq, cases-lt}
 use Rattle.syntax.specs.declared.types.Ground.{Ground}
-use Rattle.syntax.specs.declared.types.Mark.{Mark}
-use Rattle.syntax.specs.declared.types.Mark.the-variants.{Open, Yes, No}
+use Rattle.syntax.specs.declared.types.Mark.the-variants.{Open}
 use Rattle.syntax.specs.declared.counts.Counts.{Counts}
 use Rattle.syntax.specs.Numbers.{number-of, LawfulGround}
 use Rattle.semantics.specs.Meaning.{Interpretation, value}

@@ -14,8 +14,8 @@ use Rattle.syntax.specs.declared.counts.Counts.{Counts}
 use Rattle.syntax.specs.Lawful.{Lawful, LawfulLiteral}
 use Rattle.syntax.specs.Numbers.{LawfulGround}
 use Rattle.semantics.specs.Meaning.{value}
-use Rattle.semantics.specs.Branch.{Branch, mark-at, Linked, self, told, back, on, Clash, same-no, prop-both, rel-both, ClassTable, own, is-yes}
-use Rattle.semantics.specs.Theorems.{Own-model, Own-agrees, One-table, Table-from, Fulfilled-from}
+use Rattle.semantics.specs.Branch.{Branch, mark-at, Linked, self, told, back, on, Clash, same-no, prop-both, rel-both, ClassTable, StandsFor, own, is-yes}
+use Rattle.semantics.specs.Theorems.{Own-model, Own-exact, One-own, Own-agrees, One-table, Table-from, Fulfilled-from}
 use Rattle.semantics.proofs.Finite.{any-in, any-out}
 use Rattle.semantics.proofs.Instances.{in-clause, four-at, ground-same}
 use Rattle.semantics.proofs.Steps.{linked-below}
@@ -25,6 +25,9 @@ is-yes-yes m e = grind arith
 
 false-from : (t : Bool) → (t ≡ true → ⊥) → t ≡ false
 false-from t no-true = grind arith
+
+same-from : (s t : Bool) → (s ≡ true → t ≡ true) → (t ≡ true → s ≡ true) → s ≡ t
+same-from s t f g = grind arith
 
 module _ (c : Counts) (marks : Branch) (leader : ℕ → ℕ) (table : ClassTable c marks leader) where
   pub leader-below : (a : ℕ) → a < c .names → leader a < c .names
@@ -39,31 +42,51 @@ module _ (c : Counts) (marks : Branch) (leader : ℕ → ℕ) (table : ClassTabl
   pub linked-by : {a b : ℕ} → a < c .names → b < c .names → leader a ≡ leader b → Linked c marks a b
   linked-by {a} {b} h k e = on (table .linked a h) (rw e (back (table .linked b k)))
 
-  own-yes : (g : Ground) → LawfulGround c g → mark-at c marks g ≡ Yes → value (own c marks leader) g ≡ true
-  own-yes (Same a b) h e = eq-eqb _ _ (same-leader (told (h .0) (h .1) e))
-  own-yes (Prop p a) h e = any-in (c .names) _ a (h .1) (and-from _ _ (eq-eqb _ _ refl) (ap is-yes e))
-  own-yes (Rel r a b) h e =
-      any-in (c .names) _ a (h .1 .0)
-      (and-from _ _ (eq-eqb _ _ refl) (any-in (c .names) _ b (h .1 .1) (and-from _ _ (eq-eqb _ _ refl) (ap is-yes e))))
+  exact-in : (g : Ground) → LawfulGround c g → StandsFor c marks g → value (own c marks leader) g ≡ true
+  exact-in (Same a b) h r = eq-eqb _ _ (same-leader r)
+  exact-in (Prop p a) h (x, r, e) =
+      any-in (c .names) _ x (linked-below r .1) (and-from _ _ (eq-eqb _ _ (sym (same-leader r))) (ap is-yes e))
+  exact-in (Rel k a b) h (x, r, (y, s, e)) =
+      any-in (c .names) _ x (linked-below r .1)
+      (and-from _ _ (eq-eqb _ _ (sym (same-leader r)))
+      (any-in (c .names) _ y (linked-below s .1) (and-from _ _ (eq-eqb _ _ (sym (same-leader s))) (ap is-yes e))))
 
-  own-no : (g : Ground) → LawfulGround c g → (Clash c marks → ⊥) → mark-at c marks g ≡ No → value (own c marks leader) g ≡ true → ⊥
-  own-no (Same a b) h no-clash e v = no-clash (same-no a b (linked-by (h .0) (h .1) (eqb-true _ _ v)) e)
-  own-no (Prop p a) h no-clash e v =
-      let t = any-out (c .names) _ v in
-      let f = and-parts _ _ (t .2) in
-      no-clash (prop-both p (t .0) a (h .0) (linked-by (t .1) (h .1) (eqb-true _ _ (f .0))) (is-yes-yes _ (f .1)) e)
-  own-no (Rel r a b) h no-clash e v =
-      let t = any-out (c .names) _ v in
-      let f = and-parts _ _ (t .2) in
-      let u = any-out (c .names) _ (f .1) in
-      let k = and-parts _ _ (u .2) in
-      no-clash
-      (rel-both r (t .0) (u .0) a b (h .0) (linked-by (t .1) (h .1 .0) (eqb-true _ _ (f .0))) (linked-by (u .1) (h .1 .1) (eqb-true _ _ (k .0)))
-      (is-yes-yes _ (k .1)) e)
+  exact-out : (g : Ground) → LawfulGround c g → value (own c marks leader) g ≡ true → StandsFor c marks g
+  exact-out (Same a b) h v = linked-by (h .0) (h .1) (eqb-true _ _ v)
+  exact-out (Prop p a) h v =
+      let (x, below, both) = any-out (c .names) _ v in
+      let (e, f) = and-parts _ _ both in
+      (x, linked-by (h .1) below (sym (eqb-true _ _ e)), is-yes-yes _ f)
+  exact-out (Rel k a b) h v =
+      let (x, below, both) = any-out (c .names) _ v in
+      let (e, f) = and-parts _ _ both in
+      let (y, low, two) = any-out (c .names) _ f in
+      let (d, m) = and-parts _ _ two in
+      (x, linked-by (h .1 .0) below (sym (eqb-true _ _ e)), (y, linked-by (h .1 .1) low (sym (eqb-true _ _ d)), is-yes-yes _ m))
+
+pub own-exact : Own-exact
+own-exact c marks leader g table h = (exact-out c marks leader table g h, exact-in c marks leader table g h)
+
+pub one-own : One-own
+one-own c marks one other g t u h =
+    same-from _ _
+    (λ v. exact-in c marks other u g h (exact-out c marks one t g h v))
+    (λ v. exact-in c marks one t g h (exact-out c marks other u g h v))
+
+-- what stands yes stands for linked names, and what stands no does not
+stands-yes : (c : Counts) (marks : Branch) (g : Ground) → LawfulGround c g → mark-at c marks g ≡ Yes → StandsFor c marks g
+stands-yes c marks (Same a b) h e = told (h .0) (h .1) e
+stands-yes c marks (Prop p a) h e = (a, self (h .1), e)
+stands-yes c marks (Rel k a b) h e = (a, self (h .1 .0), (b, self (h .1 .1), e))
+
+stands-no : (c : Counts) (marks : Branch) (g : Ground) → LawfulGround c g → mark-at c marks g ≡ No → StandsFor c marks g → Clash c marks
+stands-no c marks (Same a b) h e r = same-no a b r e
+stands-no c marks (Prop p a) h e (x, r, f) = prop-both p x a (h .0) (back r) f e
+stands-no c marks (Rel k a b) h e (x, r, (y, s, f)) = rel-both k x y a b (h .0) (back r) (back s) f e
 
 pub own-agrees : Own-agrees
-own-agrees c marks leader table no-clash g h true e = own-yes c marks leader table g h e
-own-agrees c marks leader table no-clash g h false e = false-from _ (own-no c marks leader table g h no-clash e)
+own-agrees c marks leader table no-clash g h true e = exact-in c marks leader table g h (stands-yes c marks g h e)
+own-agrees c marks leader table no-clash g h false e = false-from _ (λ v. no-clash (stands-no c marks g h e (exact-out c marks leader table g h v)))
 
 pub own-model : Own-model
 own-model c clauses marks leader lawful table no-clash fulfilled =

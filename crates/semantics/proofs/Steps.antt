@@ -1,6 +1,6 @@
 -- What agrees with a branch meets no clash, and each step of a search keeps the agreement.
 use mathlib.Core.Path.{_≡_, refl, sym, ap, ap₂, _∙_}
-use mathlib.Core.Bool.{Bool, true, false, not}
+use mathlib.Core.Bool.{Bool, true, false}
 use mathlib.Core.Logic.{_⊎_, inl, inr, ⊎-elim}
 use Prim.Native.Nat.{ℕ, _<_}
 use lib.Dec.{eqb}
@@ -10,12 +10,12 @@ use Rattle.std.proofs.shelf.Elements.{all-has}
 use Rattle.std.proofs.shelf.Tests.{both-ways}
 use Rattle.syntax.specs.declared.types.Ground.{Ground}
 use Rattle.syntax.specs.declared.types.Ground.the-variants.{Same, Prop, Rel}
-use Rattle.syntax.specs.declared.types.Literal.{Literal}
+use Rattle.syntax.specs.declared.types.Mark.the-variants.{Yes, No}
 use Rattle.syntax.specs.declared.counts.Counts.{Counts}
 use Rattle.syntax.specs.Lawful.{Lawful}
 use Rattle.syntax.specs.Numbers.{LawfulGround}
-use Rattle.semantics.specs.Meaning.{Clause, Interpretation, value, Assignment, Assigns, ground, SomeHolds}
-use Rattle.semantics.specs.Branch.{Branch, mark-at, signed, tell, Agrees, Linked, self, told, back, on, Alike, same, prop, rel, same-no, prop-both, rel-both, Denied, DeniedOr}
+use Rattle.semantics.specs.Meaning.{Clause, Interpretation, value, Assignment, Assigns, SomeHolds}
+use Rattle.semantics.specs.Branch.{Branch, mark-at, signed, tell, Agrees, Linked, self, told, back, on, Alike, same, prop, rel, Clash, same-no, prop-both, rel-both, Denied, DeniedOr}
 use Rattle.semantics.specs.Theorems.{One-thing, No-clash, Forced, Denied-all, Told-alike, Split, Refutation}
 use Rattle.semantics.proofs.Instances.{together, in-clause}
 use Rattle.semantics.proofs.Marks.{not-both, tell-agrees, open-agrees}
@@ -56,6 +56,24 @@ no-clash c marks I agrees (same-no a b r e) = eqb-false _ _ (agrees (Same a b) (
 no-clash c marks I agrees (prop-both p a x h r e f) = apart-alike c marks I (Prop p a) (Prop p x) agrees (h, linked-below r .0) (prop r) e f
 no-clash c marks I agrees (rel-both p a b x y h r s e f) =
     apart-alike c marks I (Rel p a b) (Rel p x y) agrees (h, (linked-below r .0, linked-below s .0)) (rel r s) e f
+
+-- alike atoms that stand yes and no are a clash
+pub clash-alike :
+    (c : Counts) (marks : Branch) (g h : Ground) → LawfulGround c g → Alike c marks g h →
+    mark-at c marks g ≡ Yes → mark-at c marks h ≡ No → Clash c marks
+clash-alike c marks g h l (same {a} {b} {x} {y} r s) e f = same-no x y (on (back r) (on (told (l .0) (l .1) e) s)) f
+clash-alike c marks g h l (prop {p} {a} {x} r) e f = prop-both p a x (l .0) r e f
+clash-alike c marks g h l (rel {r = k} {a} {b} {x} {y} r s) e f = rel-both k a b x y (l .0) r s e f
+
+-- where more stands yes, more is linked
+pub linked-more :
+    (c : Counts) (marks more : Branch) →
+    ((a b : ℕ) → a < c .names → b < c .names → mark-at c marks (Same a b) ≡ Yes → mark-at c more (Same a b) ≡ Yes) →
+    (a b : ℕ) → Linked c marks a b → Linked c more a b
+linked-more c marks more kept a b (self h) = self h
+linked-more c marks more kept a b (told h k e) = told h k (kept a b h k e)
+linked-more c marks more kept a b (back r) = back (linked-more c marks more kept b a r)
+linked-more c marks more kept a b (on r s) = on (linked-more c marks more kept _ _ r) (linked-more c marks more kept _ _ s)
 
 -- an instance of which some literal holds: not every literal is denied
 pub conflict-at :

@@ -1,9 +1,8 @@
--- Judging by supposition.
-use mathlib.Core.Path.{_≡_, refl, sym, ap, _∙_}
+-- Judgements, and judging by supposition.
+use mathlib.Core.Path.{_≡_, sym, ap, _∙_}
 use mathlib.Core.Bool.{Bool, not}
 use mathlib.Core.List.{List, [], _∷_, _++_}
 use mathlib.Core.Logic.{_⊎_, inl, inr, ⊎-elim}
-use Prim.Native.Nat.{ℕ, _<_}
 use native.Mathlib.Omega.{arith}
 use Rattle.std.specs.shelf.Lists.{All}
 use Rattle.std.proofs.shelf.Elements.{all-has, all-append, has-append-left, has-append-right, has-push}
@@ -14,7 +13,7 @@ use Rattle.syntax.specs.Lawful.{Lawful, LawfulLiteral}
 use Rattle.syntax.specs.Numbers.{atom-of}
 use Rattle.semantics.specs.Meaning.{Clause, Interpretation, value, Assignment, Assigns, four, ground, Holds, SomeHolds, Satisfies, Model}
 use Rattle.semantics.specs.Suppositions.{unit, denials}
-use Rattle.semantics.specs.Theorems.{Denial, Counter-instance}
+use Rattle.semantics.specs.Theorems.{Denial, Counter-instance, One-truth, One-comparison}
 use Rattle.semantics.proofs.Finite.{all-from, find-in, find-below}
 use Rattle.semantics.proofs.Instances.{ground-atom, four-at, four-below, ground-same}
 use Rattle.semantics.proofs.Marks.{not-both, cases-sign}
@@ -51,6 +50,21 @@ denial c clauses g s = (
       not-both (value (t .0) g) s
       (holds (t .0) (model-left c (t .0) clauses (unit g (not s) ∷ []) (t .1)))
       (unit-out c (t .0) g (not s) (t .1 .all _ (has-push clauses _))),
+)
+
+pub one-truth : One-truth
+one-truth c clauses g s = (
+  λ sure excluded. not-both _ s (sure .1 (sure .0 .0) (sure .0 .1)) (excluded .1 (sure .0 .0) (sure .0 .1)),
+  λ sure either. not-both _ s (sure .1 (either .1 .0) (either .1 .1)) (either .1 .2),
+  λ excluded either. not-both _ s (either .0 .2) (excluded .1 (either .0 .0) (either .0 .1)),
+  λ either. (either .0 .0, either .0 .1),
+)
+
+pub one-comparison : One-comparison
+one-comparison c first second = (
+  λ one two. one .2 (two .0 (one .0) (one .1)),
+  λ one equal. one .2 (equal .0 (one .0) (one .1)),
+  λ two equal. two .1 .2 (equal .1 (two .1 .0) (two .1 .1)),
 )
 
 abbrev Fails : Interpretation → Assignment → Literal → Type 0

@@ -1,6 +1,6 @@
 -- The worked examples, from the definitions.
-use mathlib.Core.Path.{_≡_, refl, sym, ap, _∙_}
-use mathlib.Core.Bool.{Bool, true, false}
+use mathlib.Core.Path.{_≡_, refl, ap, _∙_}
+use mathlib.Core.Bool.{true, false}
 use mathlib.Core.List.{List, [], _∷_}
 use mathlib.Core.Logic.{_⊎_, inl, inr, ⊎-elim}
 use Prim.Native.Nat.{ℕ, _<_}
@@ -10,10 +10,9 @@ use Rattle.std.specs.shelf.Lists.{All}
 use Rattle.std.proofs.shelf.Elements.{all-has, all-weaker, has-append-right}
 use Rattle.std.proofs.shelf.Tests.{eqb-true, eq-eqb, both-ways}
 use Rattle.syntax.specs.declared.types.Ground.the-variants.{Same, Prop, Rel}
-use Rattle.syntax.specs.declared.types.Literal.{Literal}
 use Rattle.syntax.specs.declared.counts.Counts.{Counts}
 use Rattle.semantics.specs.Meaning.{Clause, Interpretation, Over, value, Assignment, Assigns, four, Holds, SomeHolds, Satisfies, Model}
-use Rattle.semantics.specs.Examples.{Examples, sub, function, ref, irref, is, isnt, has, eq, ne}
+use Rattle.semantics.specs.Examples.{sub, function, ref, irref, is, isnt, has, eq, ne}
 use Rattle.semantics.specs.Theorems.{All-examples}
 use Rattle.semantics.proofs.Finite.{all-from}
 use Rattle.semantics.proofs.Instances.{four-below}

@@ -85,6 +85,12 @@ pub record ClassTable (c : Counts) (marks : Branch) (leader : ℕ → ℕ) : Typ
   pub linked : (a : ℕ) → a < c .names → Linked c marks a (leader a)
   pub lowest : (a b : ℕ) → a < c .names → Linked c marks a b → leader a ≤ b
 
+-- what stands for linked names: they are one thing, and a property or relation stands yes
+abbrev pub StandsFor : Counts → Branch → Ground → Type 0
+StandsFor c marks (Same a b) = Linked c marks a b
+StandsFor c marks (Prop p a) = (x : ℕ) × Linked c marks a x × (mark-at c marks (Prop p x) ≡ Yes)
+StandsFor c marks (Rel r a b) = (x : ℕ) × Linked c marks a x × ((y : ℕ) × Linked c marks b y × (mark-at c marks (Rel r x y) ≡ Yes))
+
 -- whether the test holds of a number below n
 abbrev pub any-below : ℕ → (ℕ → Bool) → Bool
 any-below zero f = false

@@ -1,9 +1,8 @@
 -- Worked examples. P, Q, S are properties, R is a relation, a, b, d are names.
 use mathlib.Core.Path.{_≡_}
-use mathlib.Core.Bool.{Bool, true, false}
-use mathlib.Core.List.{List, [], _∷_}
+use mathlib.Core.Bool.{true, false}
+use mathlib.Core.List.{[], _∷_}
 use Prim.Native.Nat.{ℕ, _<_}
-use Rattle.syntax.specs.declared.types.Term.{Term}
 use Rattle.syntax.specs.declared.types.Term.the-variants.{Name, Var}
 use Rattle.syntax.specs.declared.types.Atom.{Atom}
 use Rattle.syntax.specs.declared.types.Atom.the-variants.{Same, Prop, Rel}

@@ -12,16 +12,16 @@ use Rattle.syntax.specs.declared.types.Mark.the-variants.{Open, Yes}
 use Rattle.syntax.specs.declared.types.Refusal.{Refusal}
 use Rattle.syntax.specs.declared.counts.Counts.{Counts}
 use Rattle.syntax.specs.Lawful.{Lawful}
-use Rattle.syntax.specs.Numbers.{LawfulGround, number-of}
+use Rattle.syntax.specs.Numbers.{LawfulGround}
 use Rattle.semantics.specs.Meaning.{Clause, _∈_, AllLawful, Interpretation, Over, value, Assignment, Assigns, four, SomeHolds, Satisfies, Model}
 use Rattle.semantics.specs.Bytes.{Bytes-of, Congruent}
-use Rattle.semantics.specs.Branch.{Branch, mark-at, signed, tell, Agrees, Refuted, Linked, Alike, Clash, Denied, DeniedOr, SomeStands, Fulfilled, ClassTable, own}
-use Rattle.semantics.specs.Judgements.{Contradictory, Consistent, Always, Parted}
+use Rattle.semantics.specs.Branch.{Branch, mark-at, signed, tell, Agrees, Refuted, Linked, Alike, Clash, Denied, DeniedOr, SomeStands, Fulfilled, ClassTable, StandsFor, own}
+use Rattle.semantics.specs.Judgements.{Consistent, Contradictory, Always, Sure, Excluded, Undecided, Equal-books, Parted, First-only, Second-only}
 use Rattle.semantics.specs.Suppositions.{unit, denials}
 use Rattle.semantics.specs.Checks.{Proper, Finding, Checked}
 use Rattle.semantics.specs.Examples.{Examples}
 
--- THE OWN MODEL
+-- The own model.
 
 -- a branch without clash that fulfils lawful clauses: its own model is one of them
 abbrev pub Own-model : Type 0
@@ -29,6 +29,18 @@ Own-model =
     (c : Counts) (clauses : List Clause) (marks : Branch) (leader : ℕ → ℕ) →
     AllLawful c clauses → ClassTable c marks leader →
     (Clash c marks → ⊥) → Fulfilled c clauses marks → Model c clauses (own c marks leader)
+
+-- exactly that holds in it which stands for linked names
+abbrev pub Own-exact : Type 0
+Own-exact =
+    (c : Counts) (marks : Branch) (leader : ℕ → ℕ) (g : Ground) →
+    ClassTable c marks leader → LawfulGround c g → (value (own c marks leader) g ≡ true) ↔ StandsFor c marks g
+
+-- so it is one whatever class table it is made from
+abbrev pub One-own : Type 0
+One-own =
+    (c : Counts) (marks : Branch) (one other : ℕ → ℕ) (g : Ground) →
+    ClassTable c marks one → ClassTable c marks other → LawfulGround c g → value (own c marks one) g ≡ value (own c marks other) g
 
 -- it agrees with the branch
 abbrev pub Own-agrees : Type 0
@@ -54,7 +66,7 @@ Fulfilled-from =
     ((cl : Clause) → cl ∈ clauses → (x y z w : ℕ) → x < c .names → y < c .names → z < c .names → w < c .names → SomeStands c marks (four x y z w) cl) →
     Fulfilled c clauses marks
 
--- WHAT AGREES WITH A BRANCH
+-- What agrees with a branch.
 
 -- an interpretation that agrees with a branch makes linked names one thing
 abbrev pub One-thing : Type 0
@@ -64,7 +76,7 @@ One-thing = (c : Counts) (marks : Branch) (I : Interpretation) → Agrees c I ma
 abbrev pub No-clash : Type 0
 No-clash = (c : Counts) (marks : Branch) (I : Interpretation) → Agrees c I marks → Clash c marks → ⊥
 
--- ONE STEP
+-- One step.
 
 -- an instance whose every literal is denied, or is the atom g with the sign s: the model agrees with the branch with that told
 abbrev pub Forced : Type 0
@@ -115,7 +127,7 @@ pub record Refuting (c : Counts) (clauses : List Clause) : Type 0 where
 abbrev pub Refutation : Type 0
 Refutation = (c : Counts) (clauses : List Clause) → AllLawful c clauses → Refuting c clauses
 
--- SUPPOSITIONS
+-- Suppositions.
 
 -- clauses and a denied ground literal have no model exactly when every model makes the literal hold
 abbrev pub Denial : Type 0
@@ -130,7 +142,7 @@ Counter-instance =
     (c : Counts) (one other : List Clause) → AllLawful c other →
     Parted c one other ↔ ((cl : Clause) × (cl ∈ other) × ((σ : Assignment) × Assigns c σ × Consistent c (one ++ denials σ cl)))
 
--- BYTES
+-- Bytes.
 
 -- an interpretation over the counts has bytes
 abbrev pub Some-bytes : Type 0
@@ -150,7 +162,26 @@ Same-bytes =
 abbrev pub Which-bytes : Type 0
 Which-bytes = (c : Counts) (bytes : List ℕ) → ((I : Interpretation) × Bytes-of c I bytes) ↔ Congruent c bytes
 
--- CHECKING
+-- Judgements.
+
+-- a literal gets one answer: sure, excluded and undecided exclude each other, and each needs a model
+abbrev pub One-truth : Type 0
+One-truth =
+    (c : Counts) (clauses : List Clause) (g : Ground) (s : Bool) →
+    (Sure c clauses g s → Excluded c clauses g s → ⊥)
+    × (Sure c clauses g s → Undecided c clauses g s → ⊥)
+    × (Excluded c clauses g s → Undecided c clauses g s → ⊥)
+    × (Undecided c clauses g s → Consistent c clauses)
+
+-- two books get one answer: first only, second only and equal exclude each other
+abbrev pub One-comparison : Type 0
+One-comparison =
+    (c : Counts) (first second : List Clause) →
+    (First-only c first second → Second-only c first second → ⊥)
+    × (First-only c first second → Equal-books c first second → ⊥)
+    × (Second-only c first second → Equal-books c first second → ⊥)
+
+-- Checking.
 
 -- a clause is satisfied if some literal holds under every assignment of its own variables
 abbrev pub Own-variables : Type 0
@@ -164,7 +195,7 @@ One-answer =
     (c : Counts) (clauses : List Clause) (bytes : List ℕ) → AllLawful c clauses →
     (one other : Result Finding Refusal) → Checked c clauses bytes one → Checked c clauses bytes other → one ≡ other
 
--- EXAMPLES
+-- Examples.
 
 abbrev pub All-examples : Type 0
 All-examples = (c : Counts) → Examples c

@@ -1,13 +1,16 @@
 // What judging rests on: interpretations, models and branches stand in specs/, and each function here has theorems
 // about them as its contract.
-ghost use Rattle.semantics.specs.Theorems.{Own-model, Own-agrees, One-table, Table-from, Fulfilled-from};
+ghost use Rattle.semantics.specs.Theorems.{Own-model, Own-exact, One-own, Own-agrees, One-table, Table-from, Fulfilled-from};
 ghost use Rattle.semantics.specs.Theorems.{One-thing, No-clash, Forced, Denied-all, Told-alike, Split, Refutation};
-ghost use Rattle.semantics.specs.Theorems.{Denial, Counter-instance};
+ghost use Rattle.semantics.specs.Theorems.{Denial, Counter-instance, One-truth, One-comparison};
 ghost use Rattle.semantics.specs.Theorems.{Some-bytes, One-bytes, Same-bytes, Which-bytes, One-answer, Own-variables, All-examples};
 
-// A branch without clash that fulfils lawful clauses: its own model is one of them, and agrees with the branch.
+// A branch without clash that fulfils lawful clauses: its own model is one of them; what holds in it; and it agrees with
+// the branch.
 pub fn own_model() -> ()
     ensures model { λ _. ⌜ Own-model ⌝ }
+    ensures exact { λ _. ⌜ Own-exact ⌝ }
+    ensures one { λ _. ⌜ One-own ⌝ }
     ensures agrees { λ _. ⌜ Own-agrees ⌝ }
 {}
 
@@ -45,6 +48,12 @@ pub fn refuting() -> ()
 pub fn suppositions() -> ()
     ensures denial { λ _. ⌜ Denial ⌝ }
     ensures counter { λ _. ⌜ Counter-instance ⌝ }
+{}
+
+// A literal gets one answer, and two books get one.
+pub fn judgements() -> ()
+    ensures truth { λ _. ⌜ One-truth ⌝ }
+    ensures comparison { λ _. ⌜ One-comparison ⌝ }
 {}
 
 // Interpretations as bytes: each has one list of bytes, what the bytes settle, and which bytes are those of one.
