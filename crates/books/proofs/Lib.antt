@@ -1,2 +1,5 @@
 pub mod Readings
 pub mod Steps
+pub mod Laid
+pub mod Filter
+pub mod Supposing
