@@ -3,3 +3,4 @@ pub mod Steps
 pub mod Laid
 pub mod Filter
 pub mod Supposing
+pub mod Settled

@@ -31,6 +31,10 @@ units c ls = map unit (kept-by (ground-literal c) ls)
 abbrev pub own-of : {B : Type 0} → Supposition B → List Literal
 own-of s = take (s .held) (s .literals)
 
+-- the counts that a layer means: those below
+abbrev pub counts-with : {B : Type 0} → (B → Counts) → Supposition B → Counts
+counts-with counts s = counts (s .below)
+
 -- the clauses that a layer means: those below, and then one for each of its literals that is lawful below, within 65,535 in all
 -- (counts, clauses: what a book of the kind below means)
 abbrev pub clauses-with : {B : Type 0} → (B → Counts) → (B → List (List Literal)) → Supposition B → List (List Literal)
@@ -52,7 +56,7 @@ pub units-lawful : (c : Counts) (ls : List Literal) → All (Lawful c) (units c 
 units-lawful c ls =
     all-map (Lawful c) unit (kept-by (ground-literal c) ls) (all-weaker (λ l. ground-literal c l ≡ true) (λ l. Lawful c (unit l)) (unit-lawful c) (kept-by (ground-literal c) ls) (kept-by-passes (ground-literal c) ls))
 
-pub with-lawful : {B : Type 0} (counts : B → Counts) (clauses : B → List (List Literal)) → ((b : B) → All (Lawful (counts b)) (clauses b)) → (s : Supposition B) → All (Lawful (counts (s .below))) (clauses-with counts clauses s)
+pub with-lawful : {B : Type 0} (counts : B → Counts) (clauses : B → List (List Literal)) → ((b : B) → All (Lawful (counts b)) (clauses b)) → (s : Supposition B) → All (Lawful (counts-with counts s)) (clauses-with counts clauses s)
 with-lawful counts clauses h s =
     laid-lawful (counts (s .below)) (clauses (s .below)) (units (counts (s .below)) (own-of s)) (h (s .below)) (units-lawful (counts (s .below)) (own-of s))
 

@@ -26,11 +26,6 @@ standing-of b = map literals-of (take (b .len) (b .clauses))
 abbrev pub clauses-of : WorkingBook → List (List Literal)
 clauses-of b = standing-of b
 
--- a refused call leaves everything as it was
-abbrev pub Kept : {X : Type 0} → Result Unit Refusal → X → X → Type 0
-Kept (Ok _) x x′ = Unit {0}
-Kept (Err e) x x′ = x′ ≡ x
-
 -- open with the counts n, p, q: refused as 1 exactly outside the limits, and counts and list stay; else these counts, and no clause
 abbrev pub Opened : Counts → List (List Literal) → ℕ → ℕ → ℕ → Result Unit Refusal → Counts → List (List Literal) → Type 0
 Opened c cs n p q (Ok _) c′ cs′ = Within n p q × Are n p q c′ × (cs′ ≡ [])

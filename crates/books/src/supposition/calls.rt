@@ -5,8 +5,8 @@ ghost use lib.ListN.{length};
 ghost use Rattle.std.specs.shelf.Lists.{kept-by};
 ghost use Rattle.std.specs.shelf.Maps.{nth};
 ghost use Rattle.syntax.specs.Lawful.{ground-literal};
-ghost use Rattle.books.specs.Working.{Kept};
-ghost use Rattle.books.specs.Suppositions.{own-of, clauses-with, with-lawful, with-few, Supposed};
+ghost use Rattle.books.specs.Calls.{Kept};
+ghost use Rattle.books.specs.Suppositions.{own-of, counts-with, clauses-with, with-lawful, with-few, Supposed};
 use crate::book::Book;
 use crate::supposition::Supposition;
 use syntax::counts::Counts;
@@ -46,7 +46,7 @@ fn counted_at(counts: Counts, literals: &[Literal], k: usize) -> Option<Literal>
 }
 
 pub impl<B: Book> Book for Supposition<B> as SuppositionBook {
-    ghost counts = { λ s. B·Book .counts (s .below) };
+    ghost counts = { counts-with (B·Book .counts) };
 
     ghost clauses = { clauses-with (B·Book .counts) (B·Book .clauses) };
 
@@ -91,6 +91,7 @@ impl<B: Book> Supposition<B> {
     // A layer with no literal: it means what the book below means.
     pub fn over(below: B) -> Supposition<B>
         ensures below { λ r. ⌜ r .below ≡ below ⌝ }
+        ensures counts { λ r. ⌜ counts-with (B·Book .counts) r ≡ B·Book .counts below ⌝ }
         ensures own { λ r. ⌜ own-of r ≡ [] ⌝ }
         ensures clauses { λ r. ⌜ clauses-with (B·Book .counts) (B·Book .clauses) r ≡ B·Book .clauses below ⌝ }
     {
@@ -109,7 +110,8 @@ impl<B: Book> Supposition<B> {
     // below, then as 10 where 16 are held or 65,535 clauses count in all.
     pub fn suppose(&mut self, l: Literal) -> Result<(), Refusal>
         ensures below { λ _. ⌜ now (self .exit) .below ≡ now (self .entry) .below ⌝ }
-        ensures done { λ r. ⌜ Supposed (B·Book .counts (now (self .entry) .below)) (clauses-with (B·Book .counts) (B·Book .clauses) (now (self .entry))) (own-of (now (self .entry))) l r (clauses-with (B·Book .counts) (B·Book .clauses) (now (self .exit))) (own-of (now (self .exit))) ⌝ }
+        ensures counts { λ _. ⌜ counts-with (B·Book .counts) (now (self .exit)) ≡ counts-with (B·Book .counts) (now (self .entry)) ⌝ }
+        ensures done { λ r. ⌜ Supposed (counts-with (B·Book .counts) (now (self .entry))) (clauses-with (B·Book .counts) (B·Book .clauses) (now (self .entry))) (own-of (now (self .entry))) l r (clauses-with (B·Book .counts) (B·Book .clauses) (now (self .exit))) (own-of (now (self .exit))) ⌝ }
         ensures kept { λ r. ⌜ Kept r (now (self .entry)) (now (self .exit)) ⌝ }
     {
         if !is_ground_literal(self.below.counts(), l) {

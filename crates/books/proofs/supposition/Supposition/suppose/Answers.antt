@@ -21,6 +21,7 @@ returns-then-self-eq16 g c =
     let n : length (own-of s) ≡ s .held = simp length-take (omega arith) in
     record {
       below = refl;
+      counts = refl;
       done = (inr (refl, law, ⊎-elim (λ p. inl (n ∙ p)) (λ p. inr (sym (c .len-all .ensures) ∙ p .1)) (c .then-self-eq16 .either)), refl, refl);
       kept = refl;
     }
@@ -37,6 +38,7 @@ returns g c =
     let n : length (own-of s) < 16 = simp length-take (omega arith) in
     record {
       below = refl;
+      counts = refl;
       done = (law, n, room, units-more (g .B·Book .clauses b) (g .B·Book .counts b) (s .literals) (s .held) (c .args .l) (omega arith) test room, take-more-set (s .literals) (s .held) (c .args .l) (omega arith));
       kept = tt;
     }
