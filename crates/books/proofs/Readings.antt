@@ -1,7 +1,7 @@
 -- What an answer of a book says of the clauses by their places, and back.
 use mathlib.Core.Path.{_≡_, sym, ap, subst, _∙_}
 use mathlib.Core.List.{List, [], _∷_, map}
-use Prim.Native.Nat.{ℕ, zero, suc, _≤_, _<_}
+use Prim.Native.Nat.{ℕ, zero, suc, _+_, _≤_, _<_}
 use native.Mathlib.Nat.{not-suc-le-zero}
 use native.Mathlib.Omega.{arith}
 use lib.ListN.{length, getD, take, length-map}
@@ -11,11 +11,15 @@ use Rattle.std.specs.shelf.Lists.{All}
 use Rattle.std.specs.shelf.Maps.{nth}
 use Rattle.std.proofs.shelf.Maps.{nth-getD, nth-past}
 use Rattle.std.proofs.shelf.Lists.{getD-map, take-all}
-use Rattle.std.proofs.shelf.Elements.{all-getD}
+use Rattle.std.proofs.shelf.Elements.{all-getD, all-more}
 use Rattle.syntax.specs.declared.types.Literal.{Literal}
 use Rattle.syntax.specs.declared.counts.Counts.{Counts}
 use Rattle.syntax.specs.Lawful.{Lawful, LawfulLiteral}
 use Rattle.books.specs.Lists.{size-at, literal-at}
+
+-- the end of any walk: what holds of each element before n holds of all
+pub walked : {X : Type 0} (P : X → Type 0) (xs : List X) (n : ℕ) → length xs ≤ n → All P (take n xs) → All P xs
+walked {X} P xs n h f = let Q : List X → Type 0 = λ ys. All P ys in subst Q (take-all n xs h) f
 
 -- what nth answers: the element at i, or nothing past the end
 abbrev pub At : {X : Type 0} → List X → ℕ → Option X → Type 0
@@ -67,7 +71,7 @@ literal-in cs i j l e =
     let h = literal-is cs i j (Some l) e in
     (within cs i j (h .0), h .0, h .1)
 
--- every clause of a book is lawful, has 1 to 8 literals, and each of them is lawful
+-- every clause of a book is lawful, and has 1 to 8 literals
 pub clause-lawful : (c : Counts) (cs : List (List Literal)) (i : ℕ) → All (Lawful c) cs → i < length cs → Lawful c (getD cs i [])
 clause-lawful c cs i f h = all-getD (Lawful c) cs i [] h f
 
@@ -77,13 +81,24 @@ size-within c cs i n f e =
     let law = clause-lawful c cs i f (h .0) in
     (omega arith, omega arith)
 
+pub literal-within : (c : Counts) (cs : List (List Literal)) (i j : ℕ) (l : Literal) → All (Lawful c) cs → Some l ≡ literal-at cs i j → j < 8
+literal-within c cs i j l f e =
+    let h = literal-in cs i j l e in
+    let law = clause-lawful c cs i f (h .0) in
+    omega arith
+
+-- what holds of each literal of clause i holds of the one that was answered; so it is lawful
+pub literal-holds : (P : Literal → Type 0) (cs : List (List Literal)) (i j : ℕ) (l : Literal) → Some l ≡ literal-at cs i j → All P (getD cs i []) → P l
+literal-holds P cs i j l e f = let h = literal-in cs i j l e in subst P (sym (h .2)) (all-getD P (getD cs i []) j l (h .1) f)
+
 pub literal-lawful : (c : Counts) (cs : List (List Literal)) (i j : ℕ) (l : Literal) → All (Lawful c) cs → Some l ≡ literal-at cs i j → LawfulLiteral c l
 literal-lawful c cs i j l f e =
-    let h = literal-in cs i j l e in
-    let law = all-getD (LawfulLiteral c) (getD cs i []) j l (h .1) (clause-lawful c cs i f (h .0) .each) in
-    let P : Literal → Type 0 = λ x. LawfulLiteral c x in
-    subst P (sym (h .2)) law
+    literal-holds (LawfulLiteral c) cs i j l e (clause-lawful c cs i f (literal-in cs i j l e .0) .each)
 
--- a walk: what holds of each element before the end holds of all
-pub walked : {X : Type 0} (P : X → Type 0) (xs : List X) (n : ℕ) → length xs ≤ n → All P (take n xs) → All P xs
-walked {X} P xs n h f = let Q : List X → Type 0 = λ ys. All P ys in subst Q (take-all n xs h) f
+-- a walk over the literals of clause i: one more, and the end
+pub literals-more : (P : Literal → Type 0) (cs : List (List Literal)) (i j : ℕ) (l : Literal) → Some l ≡ literal-at cs i j → All P (take j (getD cs i [])) → P l → All P (take (j + 1) (getD cs i []))
+literals-more P cs i j l e f p =
+    let h = literal-in cs i j l e in all-more P (getD cs i []) j l (h .1) f (subst P (h .2) p)
+
+pub literals-all : (P : Literal → Type 0) (cs : List (List Literal)) (i j : ℕ) → None ≡ literal-at cs i j → All P (take j (getD cs i [])) → All P (getD cs i [])
+literals-all P cs i j e f = walked P (getD cs i []) j (literal-is cs i j None e) f
