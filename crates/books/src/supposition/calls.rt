@@ -34,10 +34,10 @@ fn counted_at(counts: Counts, literals: &[Literal], k: usize) -> Option<Literal>
     ensures { λ r. ⌜ r ≡ nth (kept-by (ground-literal counts) (now (literals .entry))) k ⌝ }
 {
     let mut left = k;
-    for l in literals {
-        if is_ground_literal(counts, *l) {
+    for x in literals {
+        if is_ground_literal(counts, *x) {
             if left == 0 {
-                return Some(*l);
+                return Some(*x);
             }
             left -= 1;
         }

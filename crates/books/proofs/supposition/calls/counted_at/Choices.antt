@@ -6,6 +6,6 @@ use Rattle.syntax.specs.Lawful.{ground-literal}
 use Rattle.books.proofs.supposition.calls.counted_at.Given as given
 
 -- what is left has the one that is looked for, `left` places on
-abbrev pub Inv-loop-l : given.InvT-loop-l
-Inv-loop-l l =
-    nth (kept-by (ground-literal (l .counts)) (drop (l .l-index) (l .literals))) (l .left) ≡ nth (kept-by (ground-literal (l .counts)) (l .literals)) (l .k)
+abbrev pub Inv-loop-x : given.InvT-loop-x
+Inv-loop-x l =
+    nth (kept-by (ground-literal (l .counts)) (drop (l .x-index) (l .literals))) (l .left) ≡ nth (kept-by (ground-literal (l .counts)) (l .literals)) (l .k)

@@ -3,7 +3,7 @@ use Prim.Native.Nat.{_-_}
 use lib.ListN.{length, getD, take}
 use Rattle.std.specs.shelf.Lists.{All}
 use Rattle.syntax.specs.Lawful.{GroundLiteral}
-use Rattle.books_tests.proofs.is_ground.Given as given
+use Rattle.books_tests.proofs.tests.is_ground.Given as given
 
 -- the clauses before i, and of clause i the literals before j
 abbrev pub Inv-loop-i : given.InvT-loop-i

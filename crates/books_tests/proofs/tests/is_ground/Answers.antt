@@ -10,7 +10,7 @@ use Rattle.std.proofs.shelf.Ways.{not-from-decides}
 use Rattle.syntax.specs.declared.counts.Counts.{Counts}
 use Rattle.syntax.specs.Lawful.{GroundLiteral}
 use Rattle.books.proofs.Readings.{literal-in, literal-within, literal-holds, literals-more, literals-all, walked}
-use Rattle.books_tests.proofs.is_ground.Needs as need
+use Rattle.books_tests.proofs.tests.is_ground.Needs as need
 
 pub add-j : need.add-j
 add-j g c =

@@ -3,7 +3,7 @@ use mathlib.Core.List.{List, [], _∷_, _++_}
 use Rattle.std.proofs.shelf.Lists.{append-assoc}
 use Rattle.books.specs.Lists.{literal-at}
 use Rattle.books.specs.Suppositions.{unit}
-use Rattle.books_tests.proofs.in_pile.Needs as need
+use Rattle.books_tests.proofs.tests.in_pile.Needs as need
 
 three : {X : Type 0} (cs : List X) (a b d : X) → ((cs ++ a ∷ []) ++ b ∷ []) ++ d ∷ [] ≡ cs ++ a ∷ b ∷ d ∷ []
 three cs a b d = simp append-assoc
