@@ -4,14 +4,14 @@ use mathlib.Core.List.{List, [], _∷_, _++_, map}
 use Prim.Native.Nat.{ℕ, zero, suc, _+_, _-_, _≤_, _<_, min}
 use native.Mathlib.Nat.{le-of-suc-le-suc, not-suc-le-zero}
 use native.Mathlib.Omega.{arith}
-use lib.ListN.{length, take, getD, length-take, length-map, length-append}
+use lib.ListN.{length, take, length-take, length-map, length-append}
 use Rattle.std.specs.declared.option.Option.the-variants.{None}
 use Rattle.std.specs.shelf.Maps.{nth}
 use Rattle.std.proofs.shelf.Maps.{nth-past}
-use Rattle.std.proofs.shelf.Lists.{getD-append-left, getD-append-right, getD-take, getD-past, map-append, take-map, take-all, append-assoc, append-nil, length-push}
+use Rattle.std.proofs.shelf.Lists.{getD-append-left, getD-append-right, getD-take, getD-past, map-append, take-map, take-all, append-assoc, append-nil}
 use Rattle.syntax.specs.declared.types.Literal.{Literal}
 use Rattle.books.specs.Lists.{size-at, literal-at}
-use Rattle.books.specs.Layers.{laid, laid-few}
+use Rattle.books.specs.Layers.{laid}
 
 -- nth of a list made of two, and of a front
 pub nth-left : {X : Type 0} (xs ys : List X) (i : ℕ) → i < length xs → nth (xs ++ ys) i ≡ nth xs i

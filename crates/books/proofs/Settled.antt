@@ -1,9 +1,9 @@
 -- The relations of the calls against the tests.
 use mathlib.Core.Path.{_≡_, refl, sym, ap, _∙_}
-use mathlib.Core.Bool.{Bool, true, false, not, _&&_, _||_}
+use mathlib.Core.Bool.{Bool, true, false, not, _||_}
 use mathlib.Core.Logic.{_⊎_, inl, inr, ⊎-elim}
 use mathlib.Core.List.{List, [], _∷_, _++_}
-use Prim.Native.Nat.{ℕ, _≤_, _<_}
+use Prim.Native.Nat.{ℕ}
 use native.Mathlib.Omega.{arith}
 use lib.Dec.{ltb, eqb}
 use lib.ListN.{length, take}
@@ -17,7 +17,7 @@ use Rattle.syntax.specs.declared.types.Literal.{Literal}
 use Rattle.syntax.specs.declared.types.Refusal.{Refusal}
 use Rattle.syntax.specs.declared.types.Refusal.the-variants.{Limits, Unlawful, BookFull, StrikeAbove, TooMany}
 use Rattle.syntax.specs.declared.counts.Counts.{Counts}
-use Rattle.syntax.specs.Lawful.{Lawful, GroundLiteral, lawful-literals, ground-literal}
+use Rattle.syntax.specs.Lawful.{Lawful, ground-literal}
 use Rattle.syntax.specs.Limits.{Within}
 use Rattle.syntax.specs.Refusals.{first-of}
 use Rattle.syntax.specs.Decided.{literals-decides, ground-decides}

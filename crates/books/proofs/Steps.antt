@@ -1,9 +1,8 @@
 -- The working book's places against the list that it stands for.
-use mathlib.Core.Path.{_≡_, refl, sym, ap, _∙_, subst}
+use mathlib.Core.Path.{_≡_, sym, ap, _∙_, subst}
 use mathlib.Core.Bool.{true}
 use mathlib.Core.List.{List, [], _∷_, _++_, map}
-use Prim.Native.Nat.{ℕ, zero, suc, _+_, _-_, _≤_, _<_}
-use native.Mathlib.Nat.{le-of-suc-le-suc, not-suc-le-zero}
+use Prim.Native.Nat.{ℕ, _+_, _-_, _≤_, _<_}
 use native.Mathlib.Omega.{arith}
 use lib.ListN.{length, take, getD, set, length-take, length-map}
 use Rattle.std.specs.shelf.Lists.{All}
@@ -14,7 +13,7 @@ use Rattle.syntax.specs.declared.counts.Counts.{Counts}
 use Rattle.syntax.specs.Lawful.{LawfulLiteral}
 use Rattle.books.specs.declared.clause.Clause.{Clause}
 use Rattle.books.specs.declared.working.WorkingBook.{WorkingBook}
-use Rattle.books.specs.Stored.{literals-of, fair-clauses, Fair, fair-decides}
+use Rattle.books.specs.Stored.{literals-of, lawful-stored, stored-decides}
 use Rattle.books.specs.Working.{standing-of}
 
 -- how many clauses stand
@@ -22,15 +21,15 @@ pub len-is : (b : WorkingBook) → length (standing-of b) ≡ b .len
 len-is b = simp (length-map, length-take) (omega arith)
 
 -- one clause more, and fewer
-pub fair-more : (c : Counts) (xs : List Clause) (n : ℕ) (x : Clause) → n < length xs → fair-clauses c (take n xs) ≡ true → All (LawfulLiteral c) (literals-of x) → fair-clauses c (take (n + 1) (set xs n x)) ≡ true
-fair-more c xs n x h f l =
-    ap (fair-clauses c) (take-more-set xs n x h) ∙
-    fair-decides c (take n xs ++ x ∷ []) .1 (all-push (λ y. All (LawfulLiteral c) (literals-of y)) (take n xs) x (fair-decides c (take n xs) .0 f) l)
+pub lawful-more : (c : Counts) (xs : List Clause) (n : ℕ) (x : Clause) → n < length xs → lawful-stored c (take n xs) ≡ true → All (LawfulLiteral c) (literals-of x) → lawful-stored c (take (n + 1) (set xs n x)) ≡ true
+lawful-more c xs n x h f l =
+    ap (lawful-stored c) (take-more-set xs n x h) ∙
+    stored-decides c (take n xs ++ x ∷ []) .1 (all-push (λ y. All (LawfulLiteral c) (literals-of y)) (take n xs) x (stored-decides c (take n xs) .0 f) l)
 
-pub fair-fewer : (c : Counts) (xs : List Clause) (k n : ℕ) → k ≤ n → fair-clauses c (take n xs) ≡ true → fair-clauses c (take k xs) ≡ true
-fair-fewer c xs k n h f =
-    ap (fair-clauses c) (sym (take-take k n xs h)) ∙
-    fair-decides c (take k (take n xs)) .1 (all-take (λ y. All (LawfulLiteral c) (literals-of y)) k (take n xs) (fair-decides c (take n xs) .0 f))
+pub lawful-fewer : (c : Counts) (xs : List Clause) (k n : ℕ) → k ≤ n → lawful-stored c (take n xs) ≡ true → lawful-stored c (take k xs) ≡ true
+lawful-fewer c xs k n h f =
+    ap (lawful-stored c) (sym (take-take k n xs h)) ∙
+    stored-decides c (take k (take n xs)) .1 (all-take (λ y. All (LawfulLiteral c) (literals-of y)) k (take n xs) (stored-decides c (take n xs) .0 f))
 
 pub clauses-more : (xs : List Clause) (n : ℕ) (x : Clause) → n < length xs → map literals-of (take (n + 1) (set xs n x)) ≡ map literals-of (take n xs) ++ literals-of x ∷ []
 clauses-more xs n x h = ap (map literals-of) (take-more-set xs n x h) ∙ map-push literals-of (take n xs) x

@@ -1,6 +1,5 @@
 -- What all calls that change a book have in common.
 use mathlib.Core.Path.{_≡_}
-use mathlib.Core.List.{List}
 use Rattle.std.specs.declared.option.Option.{Option}
 use Rattle.std.specs.declared.option.Option.the-variants.{Some, None}
 use Rattle.std.specs.declared.result.Result.{Result}

@@ -1,5 +1,4 @@
 -- A layer on a book: the clauses below, and then those of its own that count.
-use mathlib.Core.Path.{_≡_}
 use mathlib.Core.List.{List, _++_}
 use Prim.Native.Nat.{_-_, _≤_}
 use native.Mathlib.Omega.{arith}

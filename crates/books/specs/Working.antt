@@ -16,7 +16,7 @@ use Rattle.syntax.specs.Lawful.{Lawful, LawfulLiteral}
 use Rattle.syntax.specs.Limits.{Within, Are}
 use Rattle.books.specs.declared.clause.Clause.{Clause}
 use Rattle.books.specs.declared.working.WorkingBook.{WorkingBook}
-use Rattle.books.specs.Stored.{literals-of, Fair, fair-decides}
+use Rattle.books.specs.Stored.{literals-of, LawfulStored, stored-decides}
 
 -- the standing clauses: what was entered and not struck, in order
 abbrev pub standing-of : WorkingBook → List (List Literal)
@@ -47,13 +47,13 @@ Struck cs k (Err e) cs′ = (length cs < k) × (e ≡ StrikeAbove) × (cs′ ≡
 one-lawful : (c : Counts) (x : Clause) → All (LawfulLiteral c) (literals-of x) → Lawful c (literals-of x)
 one-lawful c x h = record { some = simp length-take (omega arith); few = simp length-take (omega arith); each = h }
 
-all-lawful : (c : Counts) (xs : List Clause) → Fair c xs → All (Lawful c) (map literals-of xs)
+all-lawful : (c : Counts) (xs : List Clause) → LawfulStored c xs → All (Lawful c) (map literals-of xs)
 all-lawful c [] h = tt
 all-lawful c (x ∷ xs) h = (one-lawful c x (h .0), all-lawful c xs (h .1))
 
 pub working-lawful : (b : WorkingBook) → All (Lawful (b .counts)) (clauses-of b)
 working-lawful b =
-    all-lawful (b .counts) (take (b .len) (b .clauses)) (fair-decides (b .counts) (take (b .len) (b .clauses)) .0 (b .fair))
+    all-lawful (b .counts) (take (b .len) (b .clauses)) (stored-decides (b .counts) (take (b .len) (b .clauses)) .0 (b .lawful))
 
 pub working-few : (b : WorkingBook) → length (clauses-of b) ≤ 65535
 working-few b = simp (length-map, length-take) (omega arith)

@@ -4,7 +4,7 @@ ghost use mathlib.Core.Path.{_≡_};
 ghost use mathlib.Core.Bool.{true};
 ghost use Prim.Native.Nat.{_≤_};
 ghost use lib.ListN.{length, take};
-ghost use Rattle.books.specs.Stored.{fair-clauses};
+ghost use Rattle.books.specs.Stored.{lawful-stored};
 use crate::clause::Clause;
 use syntax::counts::Counts;
 
@@ -17,5 +17,5 @@ pub struct WorkingBook {
     len: usize,
     ghost fits: { len ≤ 256 },
     ghost whole: { length clauses ≡ 256 },
-    ghost fair: { fair-clauses counts (take len clauses) ≡ true },
+    ghost lawful: { lawful-stored counts (take len clauses) ≡ true },
 }

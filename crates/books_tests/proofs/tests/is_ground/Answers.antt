@@ -2,7 +2,6 @@ use mathlib.Core.Path.{refl, subst}
 use mathlib.Core.List.{[]}
 use native.Mathlib.Omega.{arith}
 use borrow.Author.Needs.{needs}
-use lib.ListN.{getD}
 use Rattle.std.specs.shelf.Lists.{All}
 use Rattle.std.proofs.shelf.Elements.{all-more, all-getD}
 use Rattle.std.proofs.shelf.Tests.{false≢true}

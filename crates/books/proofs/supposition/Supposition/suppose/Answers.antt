@@ -2,9 +2,8 @@ use mathlib.Core.Path.{_≡_, refl, _∙_, sym, ap, subst}
 use mathlib.Core.Logic.{_⊎_, inl, inr, ⊎-elim}
 use Prim.Native.Nat.{_<_}
 use native.Mathlib.Omega.{arith}
-use lib.ListN.{length, take, length-take}
+use lib.ListN.{length, length-take}
 use Rattle.std.proofs.shelf.Lists.{take-more-set}
-use Rattle.syntax.specs.declared.types.Literal.{Literal}
 use Rattle.syntax.specs.declared.counts.Counts.{Counts}
 use Rattle.syntax.specs.Lawful.{GroundLiteral, ground-literal}
 use Rattle.books.specs.Layers.{laid, laid-few}

@@ -1,11 +1,10 @@
-use mathlib.Core.Path.{_≡_, _∙_, sym, ap}
-use Prim.Native.Nat.{ℕ, _-_, _+_}
+use mathlib.Core.Path.{_∙_, sym, ap}
+use Prim.Native.Nat.{_-_, _+_}
 use native.Mathlib.Omega.{arith}
 use lib.ListN.{drop, getD}
 use Rattle.std.specs.shelf.Lists.{kept-by}
 use Rattle.std.specs.shelf.Maps.{nth}
 use Rattle.std.proofs.shelf.Lists.{drop-all}
-use Rattle.syntax.specs.declared.types.Literal.{Literal}
 use Rattle.syntax.specs.Lawful.{ground-literal}
 use Rattle.books.proofs.Filter.{blank, ground-is, pass-yes, pass-no, nth-first, nth-next}
 use Rattle.books.proofs.supposition.calls.counted_at.Needs as need

@@ -1,6 +1,6 @@
 use mathlib.Core.Path.{refl}
 use native.Mathlib.Omega.{arith}
-use Rattle.books.proofs.Steps.{len-is, fair-fewer, clauses-fewer}
+use Rattle.books.proofs.Steps.{len-is, lawful-fewer, clauses-fewer}
 use Rattle.books.proofs.working.WorkingBook.strike.Needs as need
 
 pub returns-then-k-self : need.returns-then-k-self
@@ -9,7 +9,7 @@ returns-then-k-self c = record { counts = refl; done = (omega (arith, len-is (c 
 pub ghost-self : need.ghost-self
 ghost-self c =
     let b = c .args .self .now in
-    (omega arith, (b .whole, (fair-fewer (b .counts) (b .clauses) (c .args .k) (b .len) (omega arith) (b .fair), tt)))
+    (omega arith, (b .whole, (lawful-fewer (b .counts) (b .clauses) (c .args .k) (b .len) (omega arith) (b .lawful), tt)))
 
 pub returns : need.returns
 returns c =
