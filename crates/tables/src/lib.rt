@@ -1,6 +1,6 @@
 // Branch tables, which keep one of yes, no or open for each atom, and the stack.
 pub mod counting;
-//pub mod listed;
+pub mod listed;
 pub mod packed;
 pub mod row;
 pub mod stack;
