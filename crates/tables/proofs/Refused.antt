@@ -62,9 +62,9 @@ module _ (ms : List Mark) (a : ℕ) where
   -- an untell that is refused below the reach
   pub untell-open : (e : Refusal) → a < length ms → untell-refusal ms a ≡ Some e → getD ms a Open ≡ Open
   untell-open e lt h = elim (cases-eq (stands (getD ms a Open)) 0) [
-      inl o ↦ open-from (getD ms a Open) o
+    | inl o ↦ open-from (getD ms a Open) o
     | inr n ↦ let d = done-untell lt (not-zero (getD ms a Open) n) in let z : _≡_ {A = ℕ} 0 1 = cc in absurd (omega arith)
-    ]
+  ]
 
   module _ (room : ℕ) where
     pub far-tell : length ms ≤ a → tell-refusal ms room a ≡ Some BeyondReach

@@ -30,13 +30,13 @@ set-open ms k o = ap (set ms k) (sym o) ∙ set-getD ms k Open
 pub untold-opens : (ms ns : List Mark) (a : ℕ) (r : Result Unit Refusal) → Untold ms a ns r → ns ≡ set ms a Open
 untold-opens ms ns a (Ok u) h = h .1
 untold-opens ms ns a (Err e) h = h .1 ∙ sym (elim (cases-lt a (length ms)) [
-    inl lt ↦ set-open ms a (untell-open ms a e lt (h .0))
+  | inl lt ↦ set-open ms a (untell-open ms a e lt (h .0))
   | inr ge ↦ set-past ms a Open ge
-  ])
+])
 
 -- one element less of a front of xs
 pub pop-step : (xs is ys : List ℕ) (x : ℕ) → length is ≤ length xs → is ≡ take (length is) xs → is ≡ ys ++ (x ∷ [])
-  → (length is ≡ length ys + 1) × (ys ≡ take (length ys) xs) × (drop (length ys) xs ≡ x ∷ drop (length is) xs)
+    → (length is ≡ length ys + 1) × (ys ≡ take (length ys) xs) × (drop (length ys) xs ≡ x ∷ drop (length is) xs)
 pop-step xs is ys x h e p =
     let n : length is ≡ length ys + 1 = ap length p ∙ length-push ys x in
     let h′ : length ys < length xs = omega arith in
@@ -45,14 +45,14 @@ pop-step xs is ys x h e p =
 
 -- the front that is left at the end
 pub ends : (xs is : List ℕ) (height : ℕ) → length is ≤ length xs → is ≡ take (length is) xs → min height (length xs) ≤ length is → length is ≤ height
-  → (is ≡ take height xs) × (drop (length is) xs ≡ drop height xs)
+    → (is ≡ take height xs) × (drop (length is) xs ≡ drop height xs)
 ends xs is height h e m l = elim (cases-lt (length is) height) [
-    inl lt ↦
+  | inl lt ↦
       let a : length xs ≤ length is = omega arith in
       let b : length xs ≤ height = omega arith in
       (e ∙ take-all (length is) xs a ∙ sym (take-all height xs b), drop-all (length is) xs a ∙ sym (drop-all height xs b))
   | inr ge ↦ let q : length is ≡ height = omega arith in (e ∙ ap (λ k. take k xs) q, ap (λ k. drop k xs) q)
-  ]
+]
 
 -- two tests that failed, as the count shows
 passes : (b c : Bool) (m n : ℕ) → suc n ≤ cond b 0 (cond c 0 (1 + m)) → (c ≡ false) × (n ≤ m)
@@ -78,13 +78,13 @@ module _ (room : ℕ) (s : Bool) where
   -- the next atom is refused
   pub count-stop : (free : ℕ) (ms : List Mark) (a : ℕ) (xs : List ℕ) (e : Refusal) → tell-refusal ms room a ≡ Some e → count-told room s free ms (a ∷ xs) ≡ 0
   count-stop free ms a xs e h = elim (cases-bool (leb free 0)) [
-      inl t ↦ cond-true (leb free 0) _ _ t
+    | inl t ↦ cond-true (leb free 0) _ _ t
     | inr f ↦ cond-false (leb free 0) _ _ f ∙ cond-true _ _ _ (ap isSome h)
-    ]
+  ]
 
   -- the next atom is told
   pub count-more : (free : ℕ) (ms : List Mark) (a : ℕ) (xs : List ℕ) → 0 < free → tell-refusal ms room a ≡ None
-    → count-told room s free ms (a ∷ xs) ≡ 1 + count-told room s (free - 1) (set ms a (signed s)) xs
+      → count-told room s free ms (a ∷ xs) ≡ 1 + count-told room s (free - 1) (set ms a (signed s)) xs
   count-more free ms a xs h e = cond-false (leb free 0) _ _ (lt-leb free 0 h) ∙ cond-false _ _ _ (ap isSome e)
 
   -- what is told is opened again
@@ -103,12 +103,12 @@ module _ (room : ℕ) (s : Bool) where
       ap (λ f. count-told room s f ms (drop i atoms)) e ∙ count-full ms (drop i atoms)
 
   pub stop-refused : (free : ℕ) (ms : List Mark) (atoms : List ℕ) (i : ℕ) (e : Refusal) → i < length atoms → tell-refusal ms room (getD atoms i 0) ≡ Some e
-    → count-told room s free ms (drop i atoms) ≡ 0
+      → count-told room s free ms (drop i atoms) ≡ 0
   stop-refused free ms atoms i e h r = at-drop-more (count-told room s free ms) atoms i 0 h ∙ count-stop free ms (getD atoms i 0) (drop (i + 1) atoms) e r
 
   pub step-told : (free free′ : ℕ) (ms ns : List Mark) (atoms : List ℕ) (i : ℕ) → i < length atoms → 0 < free → free′ ≡ free - 1
-    → tell-refusal ms room (getD atoms i 0) ≡ None → ns ≡ set ms (getD atoms i 0) (signed s)
-    → count-told room s free ms (drop i atoms) ≡ 1 + count-told room s free′ ns (drop (i + 1) atoms)
+      → tell-refusal ms room (getD atoms i 0) ≡ None → ns ≡ set ms (getD atoms i 0) (signed s)
+      → count-told room s free ms (drop i atoms) ≡ 1 + count-told room s free′ ns (drop (i + 1) atoms)
   step-told free free′ ms ns atoms i h p f r e =
       at-drop-more (count-told room s free ms) atoms i 0 h ∙ count-more free ms (getD atoms i 0) (drop (i + 1) atoms) p r
       ∙ ap (λ m. 1 + count-told room s (free - 1) m (drop (i + 1) atoms)) (sym e) ∙ ap (λ k. 1 + count-told room s k ns (drop (i + 1) atoms)) (sym f)

@@ -11,7 +11,12 @@ use crate::table::BranchTable;
 
 // Tells the atoms one after the other, all with one sign, and puts each on the trail. Stops at the
 // first that is refused or finds no slot, and answers how many were told.
-pub fn tell_all<T: BranchTable>(table: &mut T, trail: &mut Stack<'_, u16>, atoms: &[u16], sign: bool) -> usize
+pub fn tell_all<T: BranchTable>(
+    table: &mut T,
+    trail: &mut Stack<'_, u16>,
+    atoms: &[u16],
+    sign: bool,
+) -> usize
     ensures count { λ r. ⌜ r ≡ count-told (T·BranchTable .room (now (table .entry))) sign (slots-of (now (trail .entry)) - length (items (now (trail .entry)))) (T·BranchTable .marks (now (table .entry))) (now (atoms .entry)) ⌝ }
     ensures marks { λ r. ⌜ T·BranchTable .marks (now (table .exit)) ≡ told sign (T·BranchTable .marks (now (table .entry))) (take r (now (atoms .entry))) ⌝ }
     ensures trail { λ r. ⌜ items (now (trail .exit)) ≡ items (now (trail .entry)) ++ take r (now (atoms .entry)) ⌝ }
@@ -53,7 +58,12 @@ pub fn untell_to<T: BranchTable>(table: &mut T, trail: &mut Stack<'_, u16>, heig
 }
 
 // Tells the atoms as far as it goes and takes them back: the table means what it meant.
-pub fn tell_and_untell<T: BranchTable>(table: &mut T, trail: &mut Stack<'_, u16>, atoms: &[u16], sign: bool) -> usize
+pub fn tell_and_untell<T: BranchTable>(
+    table: &mut T,
+    trail: &mut Stack<'_, u16>,
+    atoms: &[u16],
+    sign: bool,
+) -> usize
     ensures count { λ r. ⌜ r ≡ count-told (T·BranchTable .room (now (table .entry))) sign (slots-of (now (trail .entry)) - length (items (now (trail .entry)))) (T·BranchTable .marks (now (table .entry))) (now (atoms .entry)) ⌝ }
     ensures marks { λ _. ⌜ T·BranchTable .marks (now (table .exit)) ≡ T·BranchTable .marks (now (table .entry)) ⌝ }
     ensures trail { λ _. ⌜ items (now (trail .exit)) ≡ items (now (trail .entry)) ⌝ }

@@ -22,7 +22,10 @@ returns-then-is-full g c =
       count = omega (arith, i .0, i .1, stop);
       marks = i .2 ∙ ap (λ k. told (c .args .sign) (t .marks (c .args .table .now)) (take k atoms)) (sym (i .0));
       trail = i .3 ∙ ap (λ k. items (c .args .trail .now) ++ take k atoms) (sym (i .0));
-      room = i .4; loan = i .5; slots = i .6; lent = i .7;
+      room = i .4;
+      loan = i .5;
+      slots = i .6;
+      lent = i .7;
     }
 
 pub returns-in-Err : need.returns-in-Err
@@ -38,7 +41,10 @@ returns-in-Err g c =
       count = omega (arith, i .0, i .1, stop);
       marks = e .told .1 ∙ i .2 ∙ ap (λ k. told (c .args .sign) (t .marks (c .args .table .now)) (take k atoms)) (sym (i .0));
       trail = i .3 ∙ ap (λ k. items (c .args .trail .now) ++ take k atoms) (sym (i .0));
-      room = e .room ∙ i .4; loan = e .loan ∙ i .5; slots = i .6; lent = i .7;
+      room = e .room ∙ i .4;
+      loan = e .loan ∙ i .5;
+      slots = i .6;
+      lent = i .7;
     }
 
 pub loop-atom-again : need.loop-atom-again
@@ -57,15 +63,16 @@ loop-atom-again g c =
     let why = ap (λ r. tell-refusal (t .marks (l .table)) r a) (sym (i .4)) ∙ e .told .0 in
     let free : slots-of (c .push .last .self) - length (items (c .push .last .self)) ≡ slots-of (l .trail) - length (items (l .trail)) - 1 = omega (arith, c .push .ensures .slots, ap length (p .1) ∙ length-push (items (l .trail)) a) in
     let step = step-told (t .room (c .args .table .now)) s (slots-of (l .trail) - length (items (l .trail))) (slots-of (c .push .last .self) - length (items (c .push .last .self)))
-                 (t .marks (l .table)) (t .marks (c .tell .last .self)) atoms n h (omega (arith, p .0)) free why (e .told .1) in
-    ( omega (arith, i .0)
-    , omega (arith, i .1, step)
-    , e .told .1 ∙ ap (λ m. set m a (signed s)) (i .2) ∙ sym (ap (told s ms) (take-more atoms n 0 h) ∙ told-push s ms (take n atoms) a)
-    , p .1 ∙ ap (λ k. k ++ (a ∷ [])) (i .3) ∙ append-assoc (items (c .args .trail .now)) (take n atoms) (a ∷ []) ∙ ap (λ k. items (c .args .trail .now) ++ k) (sym (take-more atoms n 0 h))
-    , e .room ∙ i .4
-    , e .loan ∙ i .5
-    , c .push .ensures .slots ∙ i .6
-    , c .push .ensures .loan ∙ i .7)
+    (t .marks (l .table)) (t .marks (c .tell .last .self)) atoms n h (omega (arith, p .0)) free why (e .told .1) in (
+      omega (arith, i .0),
+      omega (arith, i .1, step),
+      e .told .1 ∙ ap (λ m. set m a (signed s)) (i .2) ∙ sym (ap (told s ms) (take-more atoms n 0 h) ∙ told-push s ms (take n atoms) a),
+      p .1 ∙ ap (λ k. k ++ (a ∷ [])) (i .3) ∙ append-assoc (items (c .args .trail .now)) (take n atoms) (a ∷ []) ∙ ap (λ k. items (c .args .trail .now) ++ k) (sym (take-more atoms n 0 h)),
+      e .room ∙ i .4,
+      e .loan ∙ i .5,
+      c .push .ensures .slots ∙ i .6,
+      c .push .ensures .loan ∙ i .7,
+    )
 
 pub returns : need.returns
 returns g c =
@@ -74,10 +81,13 @@ returns g c =
     let i = l .inv in
     let atoms = c .args .atoms .now in
     let stop : count-told (t .room (c .args .table .now)) (c .args .sign) (slots-of (l .trail) - length (items (l .trail))) (t .marks (l .table)) (drop (l .atom-index) atoms) ≡ 0
-      = at-drop-all (count-told (t .room (c .args .table .now)) (c .args .sign) (slots-of (l .trail) - length (items (l .trail))) (t .marks (l .table))) atoms (l .atom-index) (c .loop-atom-test .left) in
+    = at-drop-all (count-told (t .room (c .args .table .now)) (c .args .sign) (slots-of (l .trail) - length (items (l .trail))) (t .marks (l .table))) atoms (l .atom-index) (c .loop-atom-test .left) in
     record {
       count = omega (arith, i .0, i .1, stop);
       marks = i .2 ∙ ap (λ k. told (c .args .sign) (t .marks (c .args .table .now)) (take k atoms)) (sym (i .0));
       trail = i .3 ∙ ap (λ k. items (c .args .trail .now) ++ take k atoms) (sym (i .0));
-      room = i .4; loan = i .5; slots = i .6; lent = i .7;
+      room = i .4;
+      loan = i .5;
+      slots = i .6;
+      lent = i .7;
     }

@@ -14,7 +14,7 @@ Inv-loop-atom g l =
     let i = l .atom-index in
     (l .done ≡ i)
     × (count-told room (l .sign) (slots-of (l .entry .trail) - length (items (l .entry .trail))) ms (l .atoms)
-       ≡ i + count-told room (l .sign) (slots-of (l .trail) - length (items (l .trail))) (t .marks (l .table)) (drop i (l .atoms)))
+    ≡ i + count-told room (l .sign) (slots-of (l .trail) - length (items (l .trail))) (t .marks (l .table)) (drop i (l .atoms)))
     × (t .marks (l .table) ≡ told (l .sign) ms (take i (l .atoms)))
     × (items (l .trail) ≡ items (l .entry .trail) ++ take i (l .atoms))
     × (t .room (l .table) ≡ room)

@@ -23,7 +23,10 @@ returns g c =
     record {
       count = a .count;
       marks = b .marks ∙ ap (λ m. opened m (drop (c .height-height .result) (items (c .tell-all-done .last .trail)))) (a .marks) ∙ ap (opened (told (c .args .sign) ms ys)) off
-              ∙ round (t .room (c .args .table .now)) (c .args .sign) (slots-of (c .args .trail .now) - length xs) (c .tell-all-done .result) ms (c .args .atoms .now) (omega (arith, a .count));
+          ∙ round (t .room (c .args .table .now)) (c .args .sign) (slots-of (c .args .trail .now) - length xs) (c .tell-all-done .result) ms (c .args .atoms .now) (omega (arith, a .count));
       trail = b .trail ∙ mid;
-      room = b .room ∙ a .room; loan = b .loan ∙ a .loan; slots = b .slots ∙ a .slots; lent = b .lent ∙ a .lent;
+      room = b .room ∙ a .room;
+      loan = b .loan ∙ a .loan;
+      slots = b .slots ∙ a .slots;
+      lent = b .lent ∙ a .lent;
     }

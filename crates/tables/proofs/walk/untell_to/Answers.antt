@@ -28,15 +28,16 @@ loop-trail-again-in-Some g c =
     let i = c .loop-trail .inv in
     let ms = t .marks (c .args .table .now) in
     let s = pop-step (items (c .args .trail .now)) (items (c .loop-trail .trail)) (items (c .pop .last .self)) (c .in-Some .atom) (i .0) (i .1) (c .in-Some .ensures tt .popped) in
-    let o = untold-opens (t .marks (c .loop-trail .table)) (t .marks (c .untell .last .self)) (c .in-Some .atom) (c .untell .result) (c .untell .ensures .untold) in
-    ( omega (arith, s .0, i .0)
-    , s .1
-    , o ∙ ap (λ m. set m (c .in-Some .atom) Open) (i .2) ∙ sym (ap (opened ms) (s .2))
-    , omega (arith, s .0, i .3)
-    , c .untell .ensures .room ∙ i .4
-    , c .untell .ensures .loan ∙ i .5
-    , c .in-Some .ensures tt .slots ∙ i .6
-    , c .in-Some .ensures tt .loan ∙ i .7)
+    let o = untold-opens (t .marks (c .loop-trail .table)) (t .marks (c .untell .last .self)) (c .in-Some .atom) (c .untell .result) (c .untell .ensures .untold) in (
+      omega (arith, s .0, i .0),
+      s .1,
+      o ∙ ap (λ m. set m (c .in-Some .atom) Open) (i .2) ∙ sym (ap (opened ms) (s .2)),
+      omega (arith, s .0, i .3),
+      c .untell .ensures .room ∙ i .4,
+      c .untell .ensures .loan ∙ i .5,
+      c .in-Some .ensures tt .slots ∙ i .6,
+      c .in-Some .ensures tt .loan ∙ i .7,
+    )
 
 pub returns : need.returns
 returns g c =
