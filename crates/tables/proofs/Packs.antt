@@ -138,6 +138,7 @@ past-zeroed : (n : ℕ) (bs : List ℕ) → drop n (zeroed n bs) ≡ drop n bs
 past-zeroed n bs = drop-at (replicate n 0) (drop n bs) n (length-replicate {A = ℕ} n 0)
 
 pub wiped-beyond : (bs : List ℕ) → beyond (wiped bs) ≡ beyond bs
+unfolding beyond
 wiped-beyond bs = elim (cases-lt (length bs) 2560) [
   | inl h ↦ drop-all 2560 (wiped bs) (omega (arith, wiped-length bs)) ∙ sym (drop-all 2560 bs (omega arith))
   | inr h ↦

@@ -29,7 +29,7 @@ unfoldable pub packed-marks : List ℕ → List Mark
 packed-marks bs = map (mark-at bs) (counting 0 (packed-reach bs))
 
 -- the bytes that no table touches
-abbrev pub beyond : List ℕ → List ℕ
+unfoldable pub beyond : List ℕ → List ℕ
 beyond bs = drop 2560 bs
 
 -- the bytes with a 0 in each of the first n
