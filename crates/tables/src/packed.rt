@@ -129,7 +129,7 @@ pub impl<'a> BranchTable for PackedTable<'a> as PackedBranchTable {
     ghost loan = { λ t. record { name = name (t .bytes); spare = beyond (now (t .bytes)) } };
 
     fn reach(&self) -> usize {
-        reach_of(self.bytes.len())
+        4 * self.bytes.len().min(2560)
     }
 
     fn capacity(&self) -> usize {

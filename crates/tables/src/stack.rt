@@ -3,7 +3,8 @@ ghost use Prim.Native.Nat.{_≤_};
 ghost use lib.ListN.{length};
 ghost use denote.Ref.{now};
 
-pub mod calls;
+pub mod reads;
+pub mod writes;
 
 // A choice on a branch: the trail's height before it, and the atom and the sign chosen.
 #[derive(Clone, Copy)]

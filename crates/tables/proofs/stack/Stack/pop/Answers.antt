@@ -11,4 +11,4 @@ returns g c =
     let s = c .args .self .now in
     let h : s .len - 1 < length (s .slots .now) = omega (arith, s .ok) in
     let e : s .len ≡ s .len - 1 + 1 = omega arith in
-    record { popped = ap (λ k. take k (s .slots .now)) e ∙ take-more (s .slots .now) (s .len - 1) (c .index-self-self .result) h; slots = refl; loan = refl }
+    record { popped = ap (λ k. take k (s .slots .now)) e ∙ take-more (s .slots .now) (s .len - 1) (c .index-self-at .result) h; slots = refl; loan = refl }
