@@ -8,6 +8,7 @@ use native.Mathlib.Nat.{le-of-suc-le-suc}
 use native.Mathlib.Omega.{arith}
 use lib.ListN.{length, getD, set}
 use Rattle.std.specs.declared.option.Option.the-variants.{Some, None}
+use Rattle.std.proofs.shelf.Lists.{set-getD}
 use Rattle.std.specs.declared.result.Result.{Result}
 use Rattle.std.specs.declared.result.Result.the-variants.{Ok, Err}
 use Rattle.syntax.specs.declared.types.Mark.{Mark}
@@ -21,6 +22,10 @@ use Rattle.tables.proofs.Refused.{tell-done, untell-done}
 pub stands-signed : (b : Bool) → stands (signed b) ≡ 1
 stands-signed true = refl
 stands-signed false = refl
+
+-- an open mark that is opened
+pub set-open : (ms : List Mark) (k : ℕ) → getD ms k Open ≡ Open → set ms k Open ≡ ms
+set-open ms k o = ap (set ms k) (sym o) ∙ set-getD ms k Open
 
 -- one mark changed
 pub standing-set : (ms : List Mark) (k : ℕ) (m : Mark) → k < length ms → standing (set ms k m) + stands (getD ms k Open) ≡ standing ms + stands m

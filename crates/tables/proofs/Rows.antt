@@ -14,7 +14,7 @@ use Rattle.syntax.specs.declared.types.Mark.{Mark}
 use Rattle.syntax.specs.declared.types.Mark.the-variants.{Open, Yes, No}
 use Rattle.tables.specs.Marks.{stands, standing, signed, cleared}
 use Rattle.tables.specs.Listed.{all-open, listed, Each}
-use Rattle.tables.proofs.Counts.{standing-set, stands-signed}
+use Rattle.tables.proofs.Counts.{standing-set, stands-signed, set-open}
 use Rattle.tables.proofs.Refused.{open-from}
 
 standing-replicate : (n : ℕ) → standing (replicate n Open) ≡ 0
@@ -64,8 +64,8 @@ first r rs e = elim (cases-lt (r .atom) (length (listed rs))) [
   | inr h ↦ absurd (omega (arith, ap standing (set-past (listed rs) (r .atom) (signed (r .sign)) h), count-le rs))
 ]
 
-pub set-open : (ms : List Mark) (k : ℕ) → stands (getD ms k Open) ≡ 0 → set ms k Open ≡ ms
-set-open ms k o = ap (set ms k) (sym (open-from (getD ms k Open) o)) ∙ set-getD ms k Open
+set-lies : (ms : List Mark) (k : ℕ) → stands (getD ms k Open) ≡ 0 → set ms k Open ≡ ms
+set-lies ms k o = set-open ms k (open-from (getD ms k Open) o)
 
 -- what stands is another atom than what is open
 apart : (ms : List Mark) (j k : ℕ) → stands (getD ms j Open) ≡ 0 → stands (getD ms k Open) ≡ 1 → j ≢ k
@@ -135,7 +135,7 @@ pub replaced : (rs : List Row) (i : ℕ) (d z : Row) → i < length rs → Each 
 replaced [] i d z h e o = absurd (omega arith)
 replaced (r ∷ rs) zero d z h e o =
     let f = first r rs e in
-    ap (λ m. set m (z .atom) (signed (z .sign))) (sym (set-set (listed rs) (r .atom) (signed (r .sign)) Open ∙ set-open (listed rs) (r .atom) (f .2)))
+    ap (λ m. set m (z .atom) (signed (z .sign))) (sym (set-set (listed rs) (r .atom) (signed (r .sign)) Open ∙ set-lies (listed rs) (r .atom) (f .2)))
 replaced (r ∷ rs) (suc i) d z h e o =
     let f = first r rs e in
     let x = getD rs i d in
@@ -182,7 +182,7 @@ removed rs i d z e h =
       | inr ge ↦
           let same : x ≡ z = getD-push rs z d i (omega arith) in
           ap listed (set-past rs i z ge)
-          ∙ sym (ap (λ k. set full (k .atom) Open) same ∙ ap (λ k. set k (z .atom) Open) p ∙ set-set (listed rs) (z .atom) (signed (z .sign)) Open ∙ set-open (listed rs) (z .atom) (l .1))
+          ∙ sym (ap (λ k. set full (k .atom) Open) same ∙ ap (λ k. set k (z .atom) Open) p ∙ set-set (listed rs) (z .atom) (signed (z .sign)) Open ∙ set-lies (listed rs) (z .atom) (l .1))
     ] in
     let x< : x .atom < length full = up-within full (x .atom) up in
     (m, omega (arith, ap standing m, standing-set full (x .atom) Open x<, up, e, length-push rs z, length-set rs i z))

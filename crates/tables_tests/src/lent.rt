@@ -5,14 +5,14 @@ ghost use lib.ListN.{length, replicate};
 ghost use Rattle.syntax.specs.declared.types.Mark.the-variants.{Open};
 ghost use Rattle.tables.specs.Listed.{all-open};
 ghost use Rattle.tables.specs.Packed.{packed-marks, packed-reach, beyond};
-ghost use Rattle.tables.specs.Walks.{count-told};
+ghost use Rattle.tables_tests.specs.Told.{count-told};
+use crate::walk::tell_and_untell;
 use tables::listed::ListedBranchTable;
 use tables::listed::ListedTable;
 use tables::packed::PackedBranchTable;
 use tables::packed::PackedTable;
 use tables::row::Row;
 use tables::stack::Stack;
-use tables::walk::tell_and_untell;
 
 // Tells the atoms in the bytes as far as it goes and takes them back: the bytes are clear then, and those
 // beyond the reach as they were.

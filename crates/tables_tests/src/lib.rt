@@ -1,5 +1,6 @@
 // The tables and the stack at work: what a lender knows of its memory after, and the edges.
 pub mod lent;
+pub mod walk;
 
 #[cfg(test)]
 mod tests {

@@ -8,7 +8,7 @@ use lib.ListN.{length}
 use Rattle.tables.specs.Items.{items, slots-of}
 use Rattle.tables.specs.Memory.{Loan}
 use Rattle.tables.specs.Packed.{packed-marks, packed-reach, beyond}
-use Rattle.tables.specs.Walks.{count-told}
+use Rattle.tables_tests.specs.Told.{count-told}
 use Rattle.tables.proofs.Packs.{wiped-beyond}
 use Rattle.tables_tests.proofs.lent.try_bytes.Needs as need
 

@@ -2,9 +2,9 @@ use mathlib.Core.Path.{_≡_}
 use mathlib.Core.List.{_++_}
 use Prim.Native.Nat.{_+_, _-_}
 use lib.ListN.{length, take, drop}
 use Rattle.tables.specs.Items.{items, slots-of, loan-of}
-use Rattle.tables.specs.Walks.{count-told, told}
-use Rattle.tables.proofs.walk.tell_all.Given as given
+use Rattle.tables_tests.specs.Told.{count-told, told}
+use Rattle.tables_tests.proofs.walk.tell_all.Given as given
 
 abbrev pub Inv-loop-atom : given.InvT-loop-atom
 Inv-loop-atom g l =

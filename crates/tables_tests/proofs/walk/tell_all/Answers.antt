@@ -5,11 +5,11 @@ use Prim.Native.Nat.{ℕ, _+_, _-_, _<_}
 use native.Mathlib.Omega.{arith}
 use lib.ListN.{length, getD, set, take, drop}
 use Rattle.std.proofs.shelf.Lists.{at-drop-all, take-more, length-push}
 use Rattle.tables.specs.Items.{items, slots-of}
 use Rattle.tables.specs.Marks.{signed, tell-refusal}
-use Rattle.tables.specs.Walks.{count-told, told}
-use Rattle.tables.proofs.Trails.{stop-full, stop-refused, step-told, told-push, pushed-on}
-use Rattle.tables.proofs.walk.tell_all.Needs as need
+use Rattle.tables_tests.specs.Told.{count-told, told}
+use Rattle.tables_tests.proofs.Counted.{stop-full, stop-refused, step-told, told-push, pushed-on}
+use Rattle.tables_tests.proofs.walk.tell_all.Needs as need
 
 pub returns-then-is-full : need.returns-then-is-full
 returns-then-is-full g c =

@@ -4,10 +4,11 @@ use native.Mathlib.Omega.{arith}
 use mathlib.Core.List.{_++_}
 use lib.ListN.{length, take, drop}
 use Rattle.std.proofs.shelf.Lists.{take-append-le, take-all, drop-at}
 use Rattle.tables.specs.Items.{items, slots-of}
-use Rattle.tables.specs.Walks.{count-told, told, opened}
-use Rattle.tables.proofs.Trails.{round}
-use Rattle.tables.proofs.walk.tell_and_untell.Needs as need
+use Rattle.tables.specs.Walks.{opened}
+use Rattle.tables_tests.specs.Told.{count-told, told}
+use Rattle.tables_tests.proofs.Counted.{round}
+use Rattle.tables_tests.proofs.walk.tell_and_untell.Needs as need
 
 pub returns : need.returns
 returns g c =
