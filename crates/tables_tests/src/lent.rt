@@ -31,6 +31,6 @@ pub fn try_rows(rows: &mut [Row], slots: &mut [u16], atoms: &[u16]) -> usize
     ensures { λ r. ⌜ r ≡ count-told (length (now (rows .entry))) true (length (now (slots .entry))) all-open (now (atoms .entry)) ⌝ }
 {
     let mut table = ListedTable::new(rows);
-    let mut trail = Stack::new(slots);
-    tell_and_untell(&mut table, &mut trail, atoms, true)
+    let mut stack = Stack::new(slots);
+    tell_and_untell(&mut table, &mut stack, atoms, true)
 }
