@@ -8,14 +8,14 @@ use native.Mathlib.Nat.{le-of-suc-le-suc}
 use native.Mathlib.Omega.{arith}
 use lib.ListN.{length, getD, set}
 use Rattle.std.specs.declared.option.Option.the-variants.{Some, None}
-use Rattle.std.proofs.shelf.Lists.{set-getD}
+use Rattle.std.proofs.shelf.Lists.{set-getD, length-set, length-map}
 use Rattle.std.specs.declared.result.Result.{Result}
 use Rattle.std.specs.declared.result.Result.the-variants.{Ok, Err}
 use Rattle.syntax.specs.declared.types.Mark.{Mark}
 use Rattle.syntax.specs.declared.types.Mark.the-variants.{Open, Yes, No}
 use Rattle.syntax.specs.declared.types.Refusal.{Refusal}
 use Rattle.tables.specs.Marks.{stands, standing, signed, cleared, Told, Untold, tell-refusal, untell-refusal}
-use Rattle.tables.specs.Counting.{Open-from, One-more, One-less, None-left, At-most, Fewer, Told-once, Untold-once}
+use Rattle.tables.specs.Counting.{Open-from, One-more, One-less, None-left, At-most, Fewer, Told-reach, Untold-reach, Cleared-reach, Told-once, Untold-once}
 use Rattle.tables.specs.Within.{stands-le, standing-le}
 use Rattle.tables.proofs.Refused.{tell-done, untell-done}
 
@@ -68,6 +68,17 @@ fewer A k [] h lt o = omega arith
 fewer zero k (m ∷ ms) h lt o = omega arith
 fewer (suc A) zero (m ∷ ms) h lt o = omega (arith, ap stands o, at-most A ms (later A m ms h))
 fewer (suc A) (suc k) (m ∷ ms) h lt o = omega (arith, stands-le m, fewer A k ms (later A m ms h) (le-of-suc-le-suc lt) o)
+
+pub told-reach : Told-reach
+told-reach ms ns room a s (Ok u) t = ap length (t .1) ∙ length-set ms a (signed s)
+told-reach ms ns room a s (Err e) t = ap length (t .1)
+
+pub untold-reach : Untold-reach
+untold-reach ms ns a (Ok u) t = ap length (t .1) ∙ length-set ms a Open
+untold-reach ms ns a (Err e) t = ap length (t .1)
+
+pub cleared-reach : Cleared-reach
+cleared-reach ms = length-map ms (λ _. Open)
 
 pub told-once : Told-once
 told-once ms ns ns′ room a s (Ok u) (Ok v) p q = (refl, p .1 ∙ sym (q .1))

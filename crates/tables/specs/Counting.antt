@@ -35,6 +35,16 @@ At-most = (A : ℕ) (ms : List Mark) → Open-from A ms → standing ms ≤ A
 abbrev pub Fewer : Type 0
 Fewer = (A k : ℕ) (ms : List Mark) → Open-from A ms → k < A → getD ms k Open ≡ Open → standing ms < A
 
+-- the reach stays, at a tell, an untell and a clear
+abbrev pub Told-reach : Type 0
+Told-reach = (ms ns : List Mark) (room atom : ℕ) (sign : Bool) (r : Result Unit Refusal) → Told ms room atom sign ns r → length ns ≡ length ms
+
+abbrev pub Untold-reach : Type 0
+Untold-reach = (ms ns : List Mark) (atom : ℕ) (r : Result Unit Refusal) → Untold ms atom ns r → length ns ≡ length ms
+
+abbrev pub Cleared-reach : Type 0
+Cleared-reach = (ms : List Mark) → length (cleared ms) ≡ length ms
+
 -- what a tell answers and leaves is fixed by the marks before it and by the room
 abbrev pub Told-once : Type 0
 Told-once = (ms ns ns′ : List Mark) (room atom : ℕ) (sign : Bool) (r r′ : Result Unit Refusal)
