@@ -1,0 +1,5 @@
+pub mod Counts
+pub mod Refused
+pub mod Packs
+pub mod Rows
+pub mod Zero

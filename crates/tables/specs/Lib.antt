@@ -1,0 +1,9 @@
+pub mod Marks
+pub mod Memory
+pub mod Packed
+pub mod Listed
+pub mod Stacks
+pub mod Items
+pub mod Counting
+pub mod Walks
+pub mod Within
