@@ -1,2 +1,3 @@
 pub mod Pieces
 pub mod Written
+pub mod Leaves

@@ -59,8 +59,9 @@ fn are_literals(counts: Counts, bytes: &[u8], n: usize) -> bool
     ensures { λ r. ⌜ Decides r (Made literal-code (LawfulLiteral counts) (now (bytes .entry))) ⌝ }
 {
     for k in 0..n {
-        if decode_literal(counts, &bytes[5 * k..5 * k + 5]).is_none() {
-            return false;
+        match decode_literal(counts, &bytes[5 * k..5 * k + 5]) {
+            Some(_) => {}
+            None => return false,
         }
     }
     true
@@ -75,7 +76,10 @@ fn is_clause(counts: Counts, bytes: &[u8]) -> bool
         return false;
     };
     let n = *n as usize;
-    if n < 1 || n > 8 || *zero != 0 {
+    if n < 1 || n > 8 {
+        return false;
+    }
+    if *zero != 0 {
         return false;
     }
     let (used, unused) = places.split_at(5 * n);
@@ -115,12 +119,18 @@ fn is_clause_block(counts: Counts, block: &[u8], n: usize) -> bool
     requires few { ⌜ n ≤ 12 ⌝ }
     ensures { λ r. ⌜ Decides r (Clauses counts n (now (block .entry))) ⌝ }
 {
-    let Some(parts) = take_apart(block) else {
-        return false;
-    };
-    if parts.kind != 1 || parts.count as usize != n {
-        return false;
+    match take_apart(block) {
+        Some(parts) => {
+            if parts.kind != 1 {
+                return false;
+            }
+            if parts.count as usize != n {
+                return false;
+            }
+            let (body, _) = parts.rest.split_at(506);
+            let (used, unused) = body.split_at(42 * n);
+            are_clauses(counts, used, n) && are_zeros(unused)
+        }
+        None => false,
     }
-    let (used, unused) = parts.rest[..506].split_at(42 * n);
-    are_clauses(counts, used, n) && are_zeros(unused)
 }
