@@ -1,3 +1,5 @@
 pub mod Pieces
 pub mod Written
 pub mod Leaves
+pub mod Heads
+pub mod Files

@@ -24,11 +24,14 @@ clause-bytes cl = length cl ∷ 0 ∷ padded 40 (joined literal-code cl)
 unfoldable pub front : ℕ → ℕ → List ℕ → List ℕ
 front kind count contents = 75 ∷ 66 ∷ kind ∷ count ∷ padded 506 contents
 
--- those of the head: the counts and the number of clauses
-unfoldable pub head-front : Counts → ℕ → List ℕ
-head-front c n = front 0 0 (c .names ∷ c .properties ∷ c .relations ∷ two-bytes n)
+-- the contents of the head: the counts and the number of clauses
+abbrev pub head-contents : Counts → ℕ → List ℕ
+head-contents c n = c .names ∷ c .properties ∷ c .relations ∷ two-bytes n
 
--- those of a clause block: its clauses
+unfoldable pub head-front : Counts → ℕ → List ℕ
+head-front c n = front 0 0 (head-contents c n)
+
+-- those of a clause block: its clauses one after the other
 unfoldable pub clauses-front : List (List Literal) → List ℕ
 clauses-front cls = front 1 (length cls) (joined clause-bytes cls)
 

@@ -9,7 +9,7 @@ use Rattle.std.specs.declared.option.Option.the-variants.{Some, None}
 use Rattle.syntax.specs.declared.types.Literal.{Literal}
 use Rattle.syntax.specs.declared.counts.Counts.{Counts}
 use Rattle.syntax.specs.Lawful.{Lawful}
-use Rattle.blocks.specs.Format.{two-bytes, head-front, clauses-front, blocks-for, file-of}
+use Rattle.blocks.specs.Format.{padded, two-bytes, head-contents, head-front, clauses-front, blocks-for, file-of}
 use Rattle.blocks.specs.Reading.{part}
 
 -- the bytes are the file of these counts and these clauses, of which there are at most 256, all lawful
@@ -33,8 +33,11 @@ block-count bytes = length bytes / 512
 abbrev pub CheckRight : List ℕ → Type 0
 CheckRight block = drop 510 block ≡ two-bytes (sum (take 510 block) % 65536)
 
+abbrev pub ChecksRight : List ℕ → ℕ → Type 0
+ChecksRight bytes b = CheckRight (block-at bytes b)
+
 -- block 0 is a head with these counts and this number of clauses, and the number of blocks fits
-pub record Head (bytes : List ℕ) (c : Counts) (n : ℕ) : Type 0 where
+pub record HeadIs (bytes : List ℕ) (c : Counts) (n : ℕ) : Type 0 where
   pub few : n ≤ 256
   pub fits : block-count bytes ≡ 1 + blocks-for n
   pub says : take 510 (block-at bytes 0) ≡ head-front c n
@@ -52,8 +55,8 @@ pub record Clauses (c : Counts) (m : ℕ) (block : List ℕ) : Type 0 where
 
 -- the layout of block b is right: block 0 is a head, each other block has the clauses that are due there by the head
 abbrev pub LayoutRight : List ℕ → ℕ → Type 0
-LayoutRight bytes zero = (c : Counts) × (n : ℕ) × Head bytes c n
-LayoutRight bytes (suc b) = (c : Counts) × (n : ℕ) × Head bytes c n × Clauses c (due n b) (block-at bytes (suc b))
+LayoutRight bytes zero = (c : Counts) × (n : ℕ) × HeadIs bytes c n
+LayoutRight bytes (suc b) = (c : Counts) × (n : ℕ) × HeadIs bytes c n × Clauses c (due n b) (block-at bytes (suc b))
 
 -- b is the first number below n without the property
 abbrev pub FirstWrong : (ℕ → Type 0) → ℕ → ℕ → Type 0
@@ -68,10 +71,14 @@ abbrev pub Searched : (ℕ → Type 0) → ℕ → Option ℕ → Type 0
 Searched P n (Some b) = FirstWrong P n b
 Searched P n None = AllRight P n
 
+-- the 506 bytes are the contents of a head with these counts and this number of clauses
+abbrev pub HeadBody : List ℕ → Counts → ℕ → Type 0
+HeadBody body c n = (n ≤ 256) × (body ≡ padded 506 (head-contents c n))
+
 -- every check and every layout is right
 pub record Right (bytes : List ℕ) : Type 0 where
   pub sized : LengthRight bytes
-  pub checks : AllRight (λ b. CheckRight (block-at bytes b)) (block-count bytes)
+  pub checks : AllRight (ChecksRight bytes) (block-count bytes)
   pub layouts : AllRight (LayoutRight bytes) (block-count bytes)
 
 -- the bytes are those of some list of such elements

@@ -15,10 +15,10 @@ use syntax::counts::Counts;
 
 // A block behind its letters.
 #[derive(Clone, Copy)]
-struct Block<'a> {
-    kind: u8,
-    count: u8,
-    rest: &'a [u8],
+pub struct Block<'a> {
+    pub kind: u8,
+    pub count: u8,
+    pub rest: &'a [u8],
 }
 
 // The sum of the bytes modulo 65,536.
@@ -33,7 +33,7 @@ fn check_sum(bytes: &[u8]) -> u16
 }
 
 // Whether the check of a block is right.
-fn check_is_right(block: &[u8]) -> bool
+pub fn check_is_right(block: &[u8]) -> bool
     requires { ⌜ length (now block) ≡ 512 ⌝ }
     ensures { λ r. ⌜ Decides r (CheckRight (now (block .entry))) ⌝ }
 {
@@ -42,7 +42,7 @@ fn check_is_right(block: &[u8]) -> bool
 }
 
 // Whether all bytes are zero.
-fn are_zeros(bytes: &[u8]) -> bool
+pub fn are_zeros(bytes: &[u8]) -> bool
     ensures { λ r. ⌜ Decides r (now (bytes .entry) ≡ replicate (length (now (bytes .entry))) 0) ⌝ }
 {
     for b in bytes {
@@ -100,7 +100,7 @@ fn are_clauses(counts: Counts, bytes: &[u8], n: usize) -> bool
 }
 
 // Takes a block apart; nothing where its letters are wrong.
-fn take_apart<'a>(block: &'a [u8]) -> Option<Block<'a>>
+pub fn take_apart<'a>(block: &'a [u8]) -> Option<Block<'a>>
     ensures { λ r. ⌜ BySome r ((kind count : ℕ) (rest : List ℕ) → now (block .entry) ≡ 75 ∷ (66 ∷ (kind ∷ (count ∷ rest))) → ⊥) (λ b. now (block .entry) ≡ 75 ∷ (66 ∷ (b .kind ∷ (b .count ∷ now (b .rest))))) ⌝ }
 {
     let [b'K', b'B', kind, count, rest @ ..] = block else {
@@ -114,7 +114,7 @@ fn take_apart<'a>(block: &'a [u8]) -> Option<Block<'a>>
 }
 
 // Whether the layout of a clause block with n clauses is right.
-fn is_clause_block(counts: Counts, block: &[u8], n: usize) -> bool
+pub fn is_clause_block(counts: Counts, block: &[u8], n: usize) -> bool
     requires size { ⌜ length (now block) ≡ 512 ⌝ }
     requires few { ⌜ n ≤ 12 ⌝ }
     ensures { λ r. ⌜ Decides r (Clauses counts n (now (block .entry))) ⌝ }

@@ -1,2 +1,3 @@
 // Block files: a book in blocks of 512 bytes, read where it lies.
-pub mod block;
+mod block;
+mod file;
