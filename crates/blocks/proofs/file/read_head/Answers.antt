@@ -24,7 +24,7 @@ pub returns-then-bytes-head : need.returns-then-bytes-head
 returns-then-bytes-head c = λ d n h.
     let p = head-parts (take 512 (c .args .bytes .now)) _ _ _ d n (c .in-Some .ensures tt) (h .says) in
     let w = c .in-Some-read-contents .ensures tt in
-    let e = number-same _ d _ n _ (c .split-at .ensures .front ∙ p .2) (w .1) in
+    let e = number-same _ d (c .in-Some-read-contents .head .counts) n _ (c .split-at .ensures .front ∙ p .2) (w .1) in
     c .if-bytes-head .taken (h .fits ∙ ap (λ k. 1 + blocks-for k) e)
 
 pub returns-else-bytes-head : need.returns-else-bytes-head
