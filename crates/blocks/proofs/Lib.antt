@@ -3,3 +3,4 @@ pub mod Written
 pub mod Leaves
 pub mod Heads
 pub mod Files
+pub mod Asked

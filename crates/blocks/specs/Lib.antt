@@ -2,3 +2,4 @@ pub mod Format
 pub mod Reading
 pub mod Layout
 pub mod Book
+pub mod Stands
