@@ -216,13 +216,13 @@ made-file bytes c n size head checks blocks =
       written = sym (take-all (512 * length (counting 0 m)) bytes all) ∙ each ∙ ap (λ (k : ℕ). joined (block-of c cls) (counting 0 (1 + blocks-for k))) (sym count);
       few = omega (arith, head .few);
       lawful = all-from-getD (Lawful c) cls [] (λ i h.
-      let b = i / 12 in
-      let k = i % 12 in
-      let w = blocks b (omega arith) in
-      let within : k < length (w .clauses) = omega (arith, w .count) in
-      let P : List Literal → Type 0 = λ cl. Lawful c cl in
-      let e : getD (w .clauses) k [] ≡ getD cls i [] = sym (read-at bytes c n b k w (omega arith) (omega (arith, w .count))) ∙ ap (λ (j : ℕ). getD cls j []) (sym (split i)) in
-      subst P e (all-getD (Lawful c) (w .clauses) k [] within (w .lawful)));
+          let b = i / 12 in
+          let k = i % 12 in
+          let w = blocks b (omega arith) in
+          let within : k < length (w .clauses) = omega (arith, w .count) in
+          let P : List Literal → Type 0 = λ cl. Lawful c cl in
+          let e : getD (w .clauses) k [] ≡ getD cls i [] = sym (read-at bytes c n b k w (omega arith) (omega (arith, w .count))) ∙ ap (λ (j : ℕ). getD cls j []) (sym (split i)) in
+          subst P e (all-getD (Lawful c) (w .clauses) k [] within (w .lawful)));
     }
 
 -- where the head is known, the layouts are those of the clause blocks

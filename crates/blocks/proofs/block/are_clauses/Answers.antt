@@ -18,9 +18,9 @@ pub returns-then-not-is-clause : need.returns-then-not-is-clause
 returns-then-not-is-clause c = (
   λ e. absurd (false≢true e),
   λ m. let k = c .loop-k .k in
-  let bytes = c .args .bytes .now in
-  let z = lost clause-bytes (Lawful (c .args .counts)) 42 (c .args .n) (m .0) bytes [] k (fortytwos (c .args .counts) (m .0) (m .1)) (omega arith) (c .pre) (m .1) (m .2) (omega arith) in
-  c .if-not-is-clause .ensures tt .1 (getD (m .0) k [], z .0, cut (42 * k) 42 bytes ∙ sym (z .1)),
+      let bytes = c .args .bytes .now in
+      let z = lost clause-bytes (Lawful (c .args .counts)) 42 (c .args .n) (m .0) bytes [] k (fortytwos (c .args .counts) (m .0) (m .1)) (omega arith) (c .pre) (m .1) (m .2) (omega arith) in
+      c .if-not-is-clause .ensures tt .1 (getD (m .0) k [], z .0, cut (42 * k) 42 bytes ∙ sym (z .1)),
 )
 
 pub loop-k-again : need.loop-k-again

@@ -17,7 +17,7 @@ pub returns-in-None : need.returns-in-None
 returns-in-None c = (
   λ e. absurd (false≢true e),
   λ m. let z = lost literal-code (LawfulLiteral (c .args .counts)) 5 (c .args .n) (m .0) (c .args .bytes .now) blank (c .loop-k .k) (fives (m .0)) (omega arith) (c .pre) (m .1) (m .2) (omega arith) in
-  absurd (c .in-None .ensures tt (getD (m .0) (c .loop-k .k) blank) (z .0) (z .1 ∙ sym (cut (5 * c .loop-k .k) 5 (c .args .bytes .now)))),
+      absurd (c .in-None .ensures tt (getD (m .0) (c .loop-k .k) blank) (z .0) (z .1 ∙ sym (cut (5 * c .loop-k .k) 5 (c .args .bytes .now)))),
 )
 
 pub loop-k-again : need.loop-k-again

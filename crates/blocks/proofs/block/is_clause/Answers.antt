@@ -31,8 +31,7 @@ returns-then-are-literals c =
 
 pub returns-else-are-literals : need.returns-else-are-literals
 returns-else-are-literals c =
-    let b = c .args .bytes .now in
-    (
+    let b = c .args .bytes .now in (
       λ t. absurd (both-ways _ (c .if-are-literals .left) t),
       λ m. c .are-literals .ensures .1 (clause-used (c .args .counts) b (take (length b - 2) (drop 2 b)) _ (take-rest b 2) (c .split-at .ensures .front) m),
     )

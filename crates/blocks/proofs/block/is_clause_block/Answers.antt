@@ -10,14 +10,14 @@ pub returns-then-parts-ne1 : need.returns-then-parts-ne1
 returns-then-parts-ne1 c = (
   λ e. absurd (false≢true e),
   λ w. let p = clauses-parts (c .args .counts) (c .args .n) (c .args .block .now) _ _ _ (c .in-Some .ensures tt) w in
-  absurd (c .if-parts-ne1 .taken (p .0)),
+      absurd (c .if-parts-ne1 .taken (p .0)),
 )
 
 pub returns-then-parts-n : need.returns-then-parts-n
 returns-then-parts-n c = (
   λ e. absurd (false≢true e),
   λ w. let p = clauses-parts (c .args .counts) (c .args .n) (c .args .block .now) _ _ _ (c .in-Some .ensures tt) w in
-  absurd (c .if-parts-n .taken (p .1)),
+      absurd (c .if-parts-n .taken (p .1)),
 )
 
 pub split-at-requires : need.split-at-requires
