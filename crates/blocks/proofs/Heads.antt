@@ -9,7 +9,8 @@ use Rattle.std.proofs.shelf.Lists.{take-append-drop, length-take-le, length-dro
 use Rattle.syntax.specs.declared.counts.Counts.{Counts}
 use Rattle.syntax.specs.Limits.{Within, Are}
 use Rattle.blocks.specs.Format.{padded, two-bytes, head-contents, front, head-front, blocks-for}
-use Rattle.blocks.specs.Layout.{HeadBody, HeadIs, LengthRight, block-at, block-count}
+use Rattle.blocks.specs.Layout.{HeadIs, block-at}
+use Rattle.blocks.specs.Parts.{HeadBody}
 use Rattle.blocks.proofs.Written.{padded-from, padded-drop}
 
 -- a list of five or more

@@ -16,7 +16,8 @@ use Rattle.syntax.specs.Lawful.{Lawful, LawfulLiteral}
 use Rattle.syntax.specs.Codes.{literal-code}
 use Rattle.blocks.specs.Format.{padded, two-bytes, clause-bytes, front, clauses-front}
 use Rattle.blocks.specs.Reading.{part}
-use Rattle.blocks.specs.Layout.{CheckRight, Clauses, Made, MadeOne}
+use Rattle.blocks.specs.Layout.{CheckRight, Clauses}
+use Rattle.blocks.specs.Parts.{Made, MadeOne}
 use Rattle.blocks.proofs.Pieces.{found, lost, joined-length}
 use Rattle.blocks.proofs.Written.{fives, fortytwos, padded-take, padded-drop, padded-from}
 

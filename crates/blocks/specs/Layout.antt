@@ -3,13 +3,11 @@ use mathlib.Core.Path.{_≡_}
 use mathlib.Core.List.{List}
 use Prim.Native.Nat.{ℕ, zero, suc, _+_, _-_, _*_, _/_, _%_, _≤_, _<_, min}
 use lib.ListN.{length, take, drop}
-use Rattle.std.specs.shelf.Lists.{All, joined, sum}
-use Rattle.std.specs.declared.option.Option.{Option}
-use Rattle.std.specs.declared.option.Option.the-variants.{Some, None}
+use Rattle.std.specs.shelf.Lists.{All, sum}
 use Rattle.syntax.specs.declared.types.Literal.{Literal}
 use Rattle.syntax.specs.declared.counts.Counts.{Counts}
 use Rattle.syntax.specs.Lawful.{Lawful}
-use Rattle.blocks.specs.Format.{padded, two-bytes, head-contents, head-front, clauses-front, blocks-for, file-of}
+use Rattle.blocks.specs.Format.{two-bytes, head-front, clauses-front, blocks-for, file-of}
 use Rattle.blocks.specs.Reading.{part}
 
 -- the bytes are the file of these counts and these clauses, of which there are at most 256, all lawful
@@ -66,25 +64,8 @@ FirstWrong P n b = (b < n) × (P b → ⊥) × ((k : ℕ) → k < b → P k)
 abbrev pub AllRight : (ℕ → Type 0) → ℕ → Type 0
 AllRight P n = (k : ℕ) → k < n → P k
 
--- a search for the first number below n without the property
-abbrev pub Searched : (ℕ → Type 0) → ℕ → Option ℕ → Type 0
-Searched P n (Some b) = FirstWrong P n b
-Searched P n None = AllRight P n
-
--- the 506 bytes are the contents of a head with these counts and this number of clauses
-abbrev pub HeadBody : List ℕ → Counts → ℕ → Type 0
-HeadBody body c n = (n ≤ 256) × (body ≡ padded 506 (head-contents c n))
-
 -- every check and every layout is right
 pub record Right (bytes : List ℕ) : Type 0 where
   pub sized : LengthRight bytes
   pub checks : AllRight (ChecksRight bytes) (block-count bytes)
   pub layouts : AllRight (LayoutRight bytes) (block-count bytes)
-
--- the bytes are those of some list of such elements
-abbrev pub Made : {X : Type 0} → (X → List ℕ) → (X → Type 0) → List ℕ → Type 0
-Made {X} f P bytes = (xs : List X) × All P xs × (bytes ≡ joined f xs)
-
--- the bytes are those of one such element
-abbrev pub MadeOne : {X : Type 0} → (X → List ℕ) → (X → Type 0) → List ℕ → Type 0
-MadeOne {X} f P bytes = (x : X) × P x × (bytes ≡ f x)

@@ -9,7 +9,8 @@ ghost use Rattle.std.specs.shelf.Lists.{sum};
 ghost use Rattle.syntax.specs.Codes.{literal-code};
 ghost use Rattle.syntax.specs.Lawful.{Lawful, LawfulLiteral};
 ghost use Rattle.blocks.specs.Format.{clause-bytes};
-ghost use Rattle.blocks.specs.Layout.{CheckRight, Clauses, Made, MadeOne};
+ghost use Rattle.blocks.specs.Layout.{CheckRight, Clauses};
+ghost use Rattle.blocks.specs.Parts.{Made, MadeOne};
 use syntax::codes::decode_literal;
 use syntax::counts::Counts;
 
@@ -33,7 +34,7 @@ fn check_sum(bytes: &[u8]) -> u16
 }
 
 // Whether the check of a block is right.
-pub fn check_is_right(block: &[u8]) -> bool
+pub(crate) fn check_is_right(block: &[u8]) -> bool
     requires { ⌜ length (now block) ≡ 512 ⌝ }
     ensures { λ r. ⌜ Decides r (CheckRight (now (block .entry))) ⌝ }
 {
@@ -42,7 +43,7 @@ pub fn check_is_right(block: &[u8]) -> bool
 }
 
 // Whether all bytes are zero.
-pub fn are_zeros(bytes: &[u8]) -> bool
+pub(crate) fn are_zeros(bytes: &[u8]) -> bool
     ensures { λ r. ⌜ Decides r (now (bytes .entry) ≡ replicate (length (now (bytes .entry))) 0) ⌝ }
 {
     for b in bytes {
@@ -100,7 +101,7 @@ fn are_clauses(counts: Counts, bytes: &[u8], n: usize) -> bool
 }
 
 // Takes a block apart; nothing where its letters are wrong.
-pub fn take_apart<'a>(block: &'a [u8]) -> Option<Block<'a>>
+pub(crate) fn take_apart<'a>(block: &'a [u8]) -> Option<Block<'a>>
     ensures { λ r. ⌜ BySome r ((kind count : ℕ) (rest : List ℕ) → now (block .entry) ≡ 75 ∷ (66 ∷ (kind ∷ (count ∷ rest))) → ⊥) (λ b. now (block .entry) ≡ 75 ∷ (66 ∷ (b .kind ∷ (b .count ∷ now (b .rest))))) ⌝ }
 {
     let [b'K', b'B', kind, count, rest @ ..] = block else {
@@ -114,7 +115,7 @@ pub fn take_apart<'a>(block: &'a [u8]) -> Option<Block<'a>>
 }
 
 // Whether the layout of a clause block with n clauses is right.
-pub fn is_clause_block(counts: Counts, block: &[u8], n: usize) -> bool
+pub(crate) fn is_clause_block(counts: Counts, block: &[u8], n: usize) -> bool
     requires size { ⌜ length (now block) ≡ 512 ⌝ }
     requires few { ⌜ n ≤ 12 ⌝ }
     ensures { λ r. ⌜ Decides r (Clauses counts n (now (block .entry))) ⌝ }

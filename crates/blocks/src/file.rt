@@ -5,7 +5,8 @@ ghost use mathlib.Core.Path.{_≡_};
 ghost use Rattle.std.specs.Options.{Cases as BySome};
 ghost use Rattle.syntax.specs.declared.counts.Counts.{Counts as Cnt};
 ghost use Rattle.blocks.specs.Format.{blocks-for};
-ghost use Rattle.blocks.specs.Layout.{HeadBody, HeadIs, LengthRight, ChecksRight, Clauses, Searched, block-at, block-count, due};
+ghost use Rattle.blocks.specs.Layout.{HeadIs, LengthRight, ChecksRight, Clauses, block-at, block-count, due};
+ghost use Rattle.blocks.specs.Parts.{HeadBody, Searched};
 use crate::block::are_zeros;
 use crate::block::check_is_right;
 use crate::block::is_clause_block;
@@ -41,7 +42,7 @@ fn read_contents(body: &[u8]) -> Option<Head>
 }
 
 // What block 0 says; nothing where its layout is wrong.
-pub fn read_head(bytes: &[u8]) -> Option<Head>
+pub(crate) fn read_head(bytes: &[u8]) -> Option<Head>
     requires { ⌜ LengthRight (now bytes) ⌝ }
     ensures { λ r. ⌜ BySome r ((c : Cnt) (n : ℕ) → HeadIs (now (bytes .entry)) c n → ⊥) (λ h. HeadIs (now (bytes .entry)) (h .counts) (h .len)) ⌝ }
 {
@@ -69,7 +70,7 @@ pub fn read_head(bytes: &[u8]) -> Option<Head>
 }
 
 // The first block whose check is wrong.
-pub fn wrong_check(bytes: &[u8]) -> Option<usize>
+pub(crate) fn wrong_check(bytes: &[u8]) -> Option<usize>
     requires { ⌜ LengthRight (now bytes) ⌝ }
     ensures { λ r. ⌜ Searched (ChecksRight (now (bytes .entry))) (block-count (now (bytes .entry))) r ⌝ }
 {
@@ -82,7 +83,7 @@ pub fn wrong_check(bytes: &[u8]) -> Option<usize>
 }
 
 // The first clause block whose layout is wrong, where n clauses are due.
-pub fn wrong_clauses(bytes: &[u8], counts: Counts, n: usize) -> Option<usize>
+pub(crate) fn wrong_clauses(bytes: &[u8], counts: Counts, n: usize) -> Option<usize>
     requires size { ⌜ LengthRight (now bytes) ⌝ }
     requires head { ⌜ HeadIs (now bytes) counts n ⌝ }
     ensures { λ r. ⌜ Searched (λ b. Clauses counts (due n b) (block-at (now (bytes .entry)) (suc b))) (blocks-for n) r ⌝ }

@@ -5,7 +5,7 @@ use Rattle.blocks.proofs.Leaves.{check-made, check-low, check-high}
 use Rattle.blocks.proofs.block.check_is_right.Needs as need
 
 pub part-check-sum-end : need.part-check-sum-end
-part-check-sum-end c = omega (arith, c .pre, length-take 510 (c .args .block .now))
+part-check-sum-end c = let h = c .pre in simp length-take (omega arith)
 
 pub returns-then-block-sum : need.returns-then-block-sum
 returns-then-block-sum c = (
