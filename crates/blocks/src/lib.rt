@@ -1,0 +1,4 @@
+// Block files: a book in blocks of 512 bytes, read where it lies.
+mod block;
+pub mod book;
+mod file;
