@@ -1,0 +1,3 @@
+// Checking a model: whether bytes are those of an interpretation, and whether it satisfies a book.
+pub mod bytes;
+mod values;
