@@ -1,3 +1,6 @@
 // Checking a model: whether bytes are those of an interpretation, and whether it satisfies a book.
 pub mod bytes;
+mod four;
+mod search;
+mod uses;
 mod values;
