@@ -1,3 +1,4 @@
 pub mod Alike
 pub mod Values
 pub mod Order
+pub mod Search
