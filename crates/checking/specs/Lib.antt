@@ -2,3 +2,4 @@ pub mod Alike
 pub mod Values
 pub mod Order
 pub mod Search
+pub mod Findings

@@ -18,5 +18,5 @@ abbrev pub In-each : Counts → List ℕ → (Interpretation → Type 0) → Typ
 In-each c bytes P = (I : Interpretation) → Bytes-of c I bytes → P I
 
 -- the clause is satisfied, or these are the names of its first failing assignment
-abbrev pub Failing : Counts → Interpretation → Clause → Option (List ℕ) → Type 0
-Failing c I cl r = Cases r (Satisfies c I cl) (λ names. First-failing c I cl (assigned names))
+abbrev pub Clause-finding : Counts → Interpretation → Clause → Option (List ℕ) → Type 0
+Clause-finding c I cl r = Cases r (Satisfies c I cl) (λ names. First-failing c I cl (assigned names))

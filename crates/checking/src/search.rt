@@ -7,7 +7,7 @@ ghost use Rattle.syntax.specs.Lawful.{Lawful};
 ghost use Rattle.syntax.specs.Numbers.{atoms};
 ghost use Rattle.semantics.specs.Checks.{uses};
 ghost use Rattle.checking.specs.Order.{Few, Inside, Next, Last};
-ghost use Rattle.checking.specs.Values.{In-each, Failing};
+ghost use Rattle.checking.specs.Values.{In-each, Clause-finding};
 ghost use Rattle.checking.specs.Search.{Limits};
 use crate::four::Four;
 use crate::uses::clause_uses;
@@ -75,7 +75,7 @@ fn next(limits: Four, at: Four) -> Option<Four>
 pub(crate) fn first_failing(counts: Counts, bytes: &[u8], literals: &[Literal]) -> Option<[u8; 4]>
     requires long { ⌜ length (now bytes) ≡ atoms counts ⌝ }
     requires lawful { ⌜ Lawful counts (now literals) ⌝ }
-    ensures { λ r. ⌜ In-each counts (now (bytes .entry)) (λ I. Failing counts I (now (literals .entry)) r) ⌝ }
+    ensures { λ r. ⌜ In-each counts (now (bytes .entry)) (λ I. Clause-finding counts I (now (literals .entry)) r) ⌝ }
 {
     let limits = limits_of(counts, literals);
     let mut at = Four {
