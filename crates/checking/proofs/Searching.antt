@@ -61,11 +61,12 @@ module _ (c : Counts) (cl : Clause) (l : Four) (lim : Limits c cl l) where
   proper x y z w b = record { assigns = assigns x y z w b; unused = unused x y z w b }
 
   below : (τ : Assignment) → Proper c cl τ → Below l (τ 0) (τ 1) (τ 2) (τ 3)
-  below τ p =
-      (limit-in c _ (l .x) (lim .at-x) (τ 0) (p .assigns 0 (omega arith)) (p .unused 0 (omega arith)),
-       limit-in c _ (l .y) (lim .at-y) (τ 1) (p .assigns 1 (omega arith)) (p .unused 1 (omega arith)),
-       limit-in c _ (l .z) (lim .at-z) (τ 2) (p .assigns 2 (omega arith)) (p .unused 2 (omega arith)),
-       limit-in c _ (l .w) (lim .at-w) (τ 3) (p .assigns 3 (omega arith)) (p .unused 3 (omega arith)))
+  below τ p = (
+    limit-in c _ (l .x) (lim .at-x) (τ 0) (p .assigns 0 (omega arith)) (p .unused 0 (omega arith)),
+    limit-in c _ (l .y) (lim .at-y) (τ 1) (p .assigns 1 (omega arith)) (p .unused 1 (omega arith)),
+    limit-in c _ (l .z) (lim .at-z) (τ 2) (p .assigns 2 (omega arith)) (p .unused 2 (omega arith)),
+    limit-in c _ (l .w) (lim .at-w) (τ 3) (p .assigns 3 (omega arith)) (p .unused 3 (omega arith)),
+  )
 
 -- the order of assignments is that of the ranks
 rises : (l : Four) (σ τ : Assignment) → Few l → Below l (σ 0) (σ 1) (σ 2) (σ 3) → (n : ℕ) → n < 4 → ((u : ℕ) → u < n → σ u ≡ τ u) → σ n < τ n → rank (σ 0) (σ 1) (σ 2) (σ 3) < rank (τ 0) (τ 1) (τ 2) (τ 3)

@@ -78,7 +78,9 @@ fn like_properties(counts: Counts, bytes: &[u8], a: u8, b: u8) -> bool
     ensures { λ r. ⌜ Decides r (LikeProperties counts (now (bytes .entry)) a b) ⌝ }
 {
     for p in 0..counts.properties() {
-        if byte_of(counts, bytes, Ground::Prop(p, a)) != byte_of(counts, bytes, Ground::Prop(p, b)) {
+        if byte_of(counts, bytes, Ground::Prop(p, a))
+            != byte_of(counts, bytes, Ground::Prop(p, b))
+        {
             return false;
         }
     }
@@ -92,7 +94,8 @@ fn like_beside(counts: Counts, bytes: &[u8], a: u8, b: u8, r: u8, d: u8) -> bool
     ensures { λ t. ⌜ Decides t (LikeBeside counts (now (bytes .entry)) a b r d) ⌝ }
 {
     byte_of(counts, bytes, Ground::Rel(r, a, d)) == byte_of(counts, bytes, Ground::Rel(r, b, d))
-        && byte_of(counts, bytes, Ground::Rel(r, d, a)) == byte_of(counts, bytes, Ground::Rel(r, d, b))
+        && byte_of(counts, bytes, Ground::Rel(r, d, a))
+            == byte_of(counts, bytes, Ground::Rel(r, d, b))
 }
 
 // Whether relation r does not tell a from b.

@@ -19,7 +19,11 @@ use syntax::types::Literal;
 fn limit(counts: Counts, literals: &[Literal], v: u8) -> u8
     ensures { λ r. ⌜ r ≡ cond (uses v (now (literals .entry))) (counts .names) 1 ⌝ }
 {
-    if clause_uses(v, literals) { counts.names() } else { 1 }
+    if clause_uses(v, literals) {
+        counts.names()
+    } else {
+        1
+    }
 }
 
 fn limits_of(counts: Counts, literals: &[Literal]) -> Four

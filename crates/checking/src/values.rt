@@ -46,7 +46,12 @@ fn literal_holds(counts: Counts, bytes: &[u8], names: [u8; 4], l: Literal) -> bo
 }
 
 // Whether some literal of a clause holds.
-pub(crate) fn clause_holds(counts: Counts, bytes: &[u8], names: [u8; 4], literals: &[Literal]) -> bool
+pub(crate) fn clause_holds(
+    counts: Counts,
+    bytes: &[u8],
+    names: [u8; 4],
+    literals: &[Literal],
+) -> bool
     requires long { ⌜ length (now bytes) ≡ atoms counts ⌝ }
     requires lawful { ⌜ Lawful counts (now literals) ⌝ }
     requires assigns { ⌜ Assigns counts (assigned names) ⌝ }

@@ -32,9 +32,11 @@ pub search-again : need.search-again
 search-again c =
     let n = c .in-Some .ensures tt in
     let l = c .limits-of-limits .result in
-    let f = few (c .args .counts) (c .args .literals .now) l (c .limits-of-limits .ensures) in
-    (n .inside, λ I b. passed-more I (c .args .literals .now) l (c .search .at) (c .in-Some .f) f (c .search .inv .0) (c .search .inv .1 I b)
-    (c .clause-holds .ensures I b .0 (c .if-not-clause-holds .left)) n)
+    let f = few (c .args .counts) (c .args .literals .now) l (c .limits-of-limits .ensures) in (
+      n .inside,
+      λ I b. passed-more I (c .args .literals .now) l (c .search .at) (c .in-Some .f) f (c .search .inv .0) (c .search .inv .1 I b)
+          (c .clause-holds .ensures I b .0 (c .if-not-clause-holds .left)) n,
+    )
 
 pub search-less : need.search-less
 search-less c =
