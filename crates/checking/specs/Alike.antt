@@ -11,6 +11,7 @@ use Rattle.semantics.specs.Bytes.{byte-at, SameBy}
 abbrev pub Bits : List ℕ → Type 0
 Bits bytes = (k : ℕ) → k < length bytes → getD bytes k 0 < 2
 
+-- each name is the same as itself
 abbrev pub Reflexive : Counts → List ℕ → Type 0
 Reflexive c bytes = (a : ℕ) → a < c .names → SameBy c bytes a a
 
@@ -27,9 +28,11 @@ abbrev pub LikeBeside : Counts → List ℕ → ℕ → ℕ → ℕ → ℕ → 
 LikeBeside c bytes a b r d =
     (byte-at c bytes (Rel r a d) ≡ byte-at c bytes (Rel r b d)) × (byte-at c bytes (Rel r d a) ≡ byte-at c bytes (Rel r d b))
 
+-- relation r does not tell a from b
 abbrev pub LikeRelation : Counts → List ℕ → ℕ → ℕ → ℕ → Type 0
 LikeRelation c bytes a b r = (d : ℕ) → d < c .names → LikeBeside c bytes a b r d
 
+-- no relation tells a from b
 abbrev pub LikeRelations : Counts → List ℕ → ℕ → ℕ → Type 0
 LikeRelations c bytes a b = (r : ℕ) → r < c .relations → LikeRelation c bytes a b r
 
@@ -40,14 +43,15 @@ pub record Alike (c : Counts) (bytes : List ℕ) (a b : ℕ) : Type 0 where
   pub properties : LikeProperties c bytes a b
   pub relations : LikeRelations c bytes a b
 
--- names that are the same are alike
+-- a is alike to each name that is the same
 abbrev pub LikeOwn : Counts → List ℕ → ℕ → Type 0
 LikeOwn c bytes a = (b : ℕ) → b < c .names → SameBy c bytes a b → Alike c bytes a b
 
+-- names that are the same are alike
 abbrev pub AllLike : Counts → List ℕ → Type 0
 AllLike c bytes = (a : ℕ) → a < c .names → LikeOwn c bytes a
 
--- what is tested of A bytes
+-- what is tested of A bytes: it comes to Congruent, one place of a relation at a time
 pub record Tested (c : Counts) (bytes : List ℕ) : Type 0 where
   pub bits : Bits bytes
   pub reflexive : Reflexive c bytes

@@ -17,6 +17,7 @@ abbrev pub listed : Finding → checks.Finding
 listed Satisfied = satisfied
 listed (Failing i names) = failing i (getD names 0 0) (getD names 1 0) (getD names 2 0) (getD names 3 0)
 
+-- an answer as the specification lists it
 abbrev pub answered : Result Finding Refusal → Result checks.Finding Refusal
 answered (Ok f) = Ok (listed f)
 answered (Err e) = Err e

@@ -24,6 +24,7 @@ pub(crate) fn byte_of(counts: Counts, bytes: &[u8], g: Ground) -> u8
     }
 }
 
+// Whether two names are the same.
 fn are_same(counts: Counts, bytes: &[u8], a: u8, b: u8) -> bool
     requires long { ⌜ length (now bytes) ≡ atoms counts ⌝ }
     requires below { ⌜ (a < counts .names) × (b < counts .names) ⌝ }

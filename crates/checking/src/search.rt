@@ -26,6 +26,7 @@ fn limit(counts: Counts, literals: &[Literal], v: u8) -> u8
     }
 }
 
+// The limits of the four variables.
 fn limits_of(counts: Counts, literals: &[Literal]) -> Four
     ensures { λ r. ⌜ Limits counts (now (literals .entry)) r ⌝ }
 {

@@ -5,6 +5,7 @@ use syntax::types::Atom;
 use syntax::types::Literal;
 use syntax::types::Term;
 
+// Whether variable v is the term.
 fn term_uses(v: u8, t: Term) -> bool
     ensures { λ r. ⌜ r ≡ term-uses v t ⌝ }
 {
@@ -14,6 +15,7 @@ fn term_uses(v: u8, t: Term) -> bool
     }
 }
 
+// Whether variable v stands in the atom.
 fn atom_uses(v: u8, atom: Atom) -> bool
     ensures { λ r. ⌜ r ≡ atom-uses v atom ⌝ }
 {

@@ -13,6 +13,7 @@ use syntax::types::Ground;
 use syntax::types::Literal;
 use syntax::types::Term;
 
+// The name that a term stands for.
 fn name_of(names: [u8; 4], t: Term) -> u8
     ensures { λ r. ⌜ r ≡ name-at (assigned names) t ⌝ }
 {
@@ -25,6 +26,7 @@ fn name_of(names: [u8; 4], t: Term) -> u8
     }
 }
 
+// The instance of an atom.
 fn instance(names: [u8; 4], atom: Atom) -> Ground
     ensures { λ r. ⌜ r ≡ ground (assigned names) atom ⌝ }
 {
@@ -35,6 +37,7 @@ fn instance(names: [u8; 4], atom: Atom) -> Ground
     }
 }
 
+// Whether a literal holds.
 fn literal_holds(counts: Counts, bytes: &[u8], names: [u8; 4], l: Literal) -> bool
     requires long { ⌜ length (now bytes) ≡ atoms counts ⌝ }
     requires lawful { ⌜ LawfulLiteral counts l ⌝ }
