@@ -1,0 +1,4 @@
+pub mod Congruence
+pub mod Searching
+pub mod Copying
+pub mod Found

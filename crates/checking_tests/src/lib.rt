@@ -1,0 +1,3 @@
+// Hand-made models for the crate `checking`.
+#[cfg(test)]
+mod tests;
