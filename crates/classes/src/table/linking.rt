@@ -1,7 +1,8 @@
 ghost use mathlib.Core.Path.{_≡_};
 ghost use Prim.Native.Nat.{ℕ, _<_, _≤_};
 ghost use lib.ListN.{length, getD};
-ghost use Rattle.semantics.specs.Branch.{ClassTable as Classes};
+ghost use Rattle.syntax.specs.declared.types.Ground.the-variants.{Same};
+ghost use Rattle.semantics.specs.Branch.{mark-at, ClassTable as Classes};
 ghost use Rattle.classes.specs.Leaders.{Coarser, Joined, Leading, leader-in, leader-of, relabel};
 use crate::marks::mark_of;
 use crate::table::ClassTable;
@@ -10,50 +11,71 @@ use syntax::types::Ground;
 use syntax::types::Mark;
 use tables::table::BranchTable;
 
-// Each name its own leader.
-fn apart() -> [u8; 32]
-    ensures whole { λ r. ⌜ length r ≡ 32 ⌝ }
-    ensures own { λ r. ⌜ ((a : ℕ) → a < 32 → leader-in r a ≡ a) ⌝ }
+// Makes each name its own leader.
+fn part(leaders: &mut [u8])
+    requires { ⌜ length (now leaders) ≡ 32 ⌝ }
+    ensures { λ _. ⌜ ((a : ℕ) → a < 32 → leader-in (now (leaders .exit)) a ≡ a) ⌝ }
 {
-    let mut leaders = [0u8; 32];
     for a in 0..32u8 {
         leaders[a as usize] = a;
     }
-    leaders
 }
 
 // Gives the names that the higher of two leaders has to the lower.
-fn join(leaders: [u8; 32], p: u8, q: u8) -> [u8; 32]
-    requires { ⌜ length leaders ≡ 32 ⌝ }
-    ensures whole { λ r. ⌜ length r ≡ 32 ⌝ }
-    ensures joined { λ r. ⌜ ((a : ℕ) → a < 32 → leader-in r a ≡ relabel p q (leader-in leaders a)) ⌝ }
+fn join(leaders: &mut [u8], p: u8, q: u8)
+    requires { ⌜ length (now leaders) ≡ 32 ⌝ }
+    ensures { λ _. ⌜ ((a : ℕ) → a < 32 → leader-in (now (leaders .exit)) a ≡ relabel p q (leader-in (now (leaders .entry)) a)) ⌝ }
 {
     let low = if p < q { p } else { q };
     let high = if p < q { q } else { p };
-    let mut joined = leaders;
-    for a in 0..32 {
-        if leaders[a] == high {
-            joined[a] = low;
+    for leader in leaders.iter_mut() {
+        if *leader == high {
+            *leader = low;
         }
     }
-    joined
 }
 
-// Joins the class of `a` with those of the names that stand the same.
-fn join_row<T: BranchTable>(counts: Counts, table: &T, leaders: [u8; 32], a: u8) -> [u8; 32]
-    requires name { ⌜ a < counts .names ⌝ }
-    requires leading { ⌜ Leading counts (T·BranchTable .marks (now table)) leaders ⌝ }
-    ensures leading { λ r. ⌜ Leading counts (T·BranchTable .marks (now (table .entry))) r ⌝ }
-    ensures coarser { λ r. ⌜ Coarser leaders r ⌝ }
-    ensures joined { λ r. ⌜ Joined counts (T·BranchTable .marks (now (table .entry))) r a (counts .names) ⌝ }
+// Joins the classes of two names that stand the same.
+fn join_pair<T: BranchTable>(counts: Counts, table: &T, leaders: &mut [u8], a: u8, b: u8)
+    requires names { ⌜ (a < counts .names) × (b < counts .names) ⌝ }
+    requires leading { ⌜ Leading counts (T·BranchTable .marks (now table)) (now leaders) ⌝ }
+    ensures leading { λ _. ⌜ Leading counts (T·BranchTable .marks (now (table .entry))) (now (leaders .exit)) ⌝ }
+    ensures coarser { λ _. ⌜ Coarser (now (leaders .entry)) (now (leaders .exit)) ⌝ }
+    ensures joined { λ _. ⌜ (mark-at counts (T·BranchTable .marks (now (table .entry))) (Same a b) ≡ Mark.Yes → leader-in (now (leaders .exit)) a ≡ leader-in (now (leaders .exit)) b) ⌝ }
 {
-    let mut joined = leaders;
-    for b in 0..counts.names() {
-        if mark_of(counts, table, Ground::Same(a, b)) == Mark::Yes {
-            joined = join(joined, joined[a as usize], joined[b as usize]);
-        }
+    let p = leaders[a as usize];
+    let q = leaders[b as usize];
+    if p == q {
+        return;
     }
-    joined
+    match mark_of(counts, table, Ground::Same(a, b)) {
+        Mark::Yes => join(leaders, p, q),
+        _ => {}
+    }
+}
+
+// Joins the class of a name with those of the names that stand the same.
+fn join_row<T: BranchTable>(counts: Counts, table: &T, leaders: &mut [u8], a: u8)
+    requires name { ⌜ a < counts .names ⌝ }
+    requires leading { ⌜ Leading counts (T·BranchTable .marks (now table)) (now leaders) ⌝ }
+    ensures leading { λ _. ⌜ Leading counts (T·BranchTable .marks (now (table .entry))) (now (leaders .exit)) ⌝ }
+    ensures coarser { λ _. ⌜ Coarser (now (leaders .entry)) (now (leaders .exit)) ⌝ }
+    ensures joined { λ _. ⌜ Joined counts (T·BranchTable .marks (now (table .entry))) (now (leaders .exit)) a (counts .names) ⌝ }
+{
+    for b in 0..counts.names() {
+        join_pair(counts, table, leaders, a, b);
+    }
+}
+
+// Joins the classes of all names that stand the same.
+fn join_all<T: BranchTable>(counts: Counts, table: &T, leaders: &mut [u8])
+    requires { ⌜ Leading counts (T·BranchTable .marks (now table)) (now leaders) ⌝ }
+    ensures leading { λ _. ⌜ Leading counts (T·BranchTable .marks (now (table .entry))) (now (leaders .exit)) ⌝ }
+    ensures joined { λ _. ⌜ ((a : ℕ) → a < counts .names → Joined counts (T·BranchTable .marks (now (table .entry))) (now (leaders .exit)) a (counts .names)) ⌝ }
+{
+    for a in 0..counts.names() {
+        join_row(counts, table, leaders, a);
+    }
 }
 
 impl ClassTable {
@@ -61,10 +83,9 @@ impl ClassTable {
     pub fn of<T: BranchTable>(counts: Counts, table: &T) -> ClassTable
         ensures { λ r. ⌜ Classes counts (T·BranchTable .marks (now (table .entry))) (leader-of r) ⌝ }
     {
-        let mut leaders = apart();
-        for a in 0..counts.names() {
-            leaders = join_row(counts, table, leaders, a);
-        }
+        let mut leaders = [0u8; 32];
+        part(&mut leaders);
+        join_all(counts, table, &mut leaders);
         ClassTable { leaders }
     }
 
