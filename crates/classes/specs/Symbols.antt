@@ -27,7 +27,10 @@ LawfulSymbol c (Rel′ r) = r < c .relations
 abbrev pub slot : (ℕ → ℕ) → ℕ → ℕ → ℕ
 slot leader a b = leader a * 32 + leader b
 
--- for names with the leaders of a and b the symbol's atom has the mark
+-- for a first name x, and a second name with the leader of b, the symbol's atom has the mark
+abbrev pub MeetsRow : Counts → Branch → (ℕ → ℕ) → Symbol → ℕ → ℕ → Mark → Type 0
+MeetsRow c marks leader s x b m = (y : ℕ) × (y < width c s) × (leader y ≡ leader b) × (mark-at c marks (atom-with s x y) ≡ m)
+
+-- for names with the leaders of a and b it has the mark
 abbrev pub Meets : Counts → Branch → (ℕ → ℕ) → Symbol → ℕ → ℕ → Mark → Type 0
-Meets c marks leader s a b m =
-    (x : ℕ) × (x < c .names) × (leader x ≡ leader a) × ((y : ℕ) × (y < width c s) × (leader y ≡ leader b) × (mark-at c marks (atom-with s x y) ≡ m))
+Meets c marks leader s a b m = (x : ℕ) × (x < c .names) × (leader x ≡ leader a) × MeetsRow c marks leader s x b m

@@ -2,5 +2,5 @@
 pub mod clash;
 pub mod marks;
 pub mod model;
-pub mod symbol;
+mod symbol;
 pub mod table;

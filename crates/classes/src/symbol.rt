@@ -1,4 +1,6 @@
-// The symbols that things have or stand in.
+// The symbols of a book: properties and relations.
+pub mod atoms;
+
 #[derive(Clone, Copy)]
 pub enum Symbol {
     Prop(u8),
