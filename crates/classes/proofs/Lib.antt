@@ -2,3 +2,4 @@ pub mod Joining
 pub mod Marking
 pub mod Clashing
 pub mod Meeting
+pub mod Gathering
