@@ -3,3 +3,5 @@ pub mod Marking
 pub mod Clashing
 pub mod Meeting
 pub mod Gathering
+pub mod Deciding
+pub mod Whole

@@ -46,7 +46,16 @@ fn gather_row<T: BranchTable>(
     }
 }
 
-// Finds the places of the symbol's atoms that have the mark, in memory where nothing is found yet.
+// Leaves nothing found.
+fn clear(found: &mut [bool])
+    ensures { λ _. ⌜ ((k : ℕ) → getD (now (found .exit)) k false ≡ false) ⌝ }
+{
+    for place in found.iter_mut() {
+        *place = false;
+    }
+}
+
+// Finds the places of the symbol's atoms that have the mark.
 pub fn gather<T: BranchTable>(
     counts: Counts,
     table: &T,
@@ -57,9 +66,9 @@ pub fn gather<T: BranchTable>(
 )
     requires lawful { ⌜ LawfulSymbol counts symbol ⌝ }
     requires whole { ⌜ length (now found) ≡ 1024 ⌝ }
-    requires clear { ⌜ ((k : ℕ) → getD (now found) k false ≡ true → ⊥) ⌝ }
     ensures { λ _. ⌜ Gathered counts (T·BranchTable .marks (now (table .entry))) (leader-of (now (classes .entry))) symbol mark (now (found .exit)) ⌝ }
 {
+    clear(found);
     for x in 0..counts.names() {
         gather_row(counts, table, classes, symbol, mark, x, found);
     }

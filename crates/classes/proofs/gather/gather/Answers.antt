@@ -1,5 +1,10 @@
+use native.Mathlib.Omega.{arith}
 use borrow.Author.Count.{below-more}
+use Rattle.std.proofs.shelf.Tests.{both-ways}
 use Rattle.classes.proofs.gather.gather.Needs as need
+
+pub loop-x-holds : need.loop-x-holds
+loop-x-holds g c = (λ k e. absurd (both-ways _ (c .clear .ensures k) e), λ x h. absurd (omega arith))
 
 pub loop-x-again : need.loop-x-again
 loop-x-again g c = (
