@@ -14,9 +14,15 @@ use Rattle.syntax.specs.declared.types.Mark.{Mark}
 use Rattle.syntax.specs.declared.counts.Counts.{Counts}
 use Rattle.syntax.specs.Numbers.{LawfulGround}
 use Rattle.semantics.specs.Branch.{Branch, mark-at}
+use Rattle.classes.specs.declared.table.ClassTable.{ClassTable}
 use Rattle.classes.specs.declared.symbol.Symbol.{Symbol}
 use Rattle.classes.specs.declared.symbol.Symbol.the-variants.{Prop as Prop′, Rel as Rel′}
-use Rattle.classes.specs.Symbols.{Gathered, LawfulSymbol, MeetsAt, More, Only, RowFound, atom-with, slot-of, width}
+use Rattle.classes.specs.Leaders.{leader-of}
+use Rattle.classes.specs.Symbols.{LawfulSymbol, More, Only, RowFound, atom-with, slot-of, width}
+
+-- the leader of a name of the book lies below 32
+pub small : (c : Counts) (t : ClassTable) (a : ℕ) → a < c .names → leader-of t a < 32
+small c t a h = omega (arith, c .few, t .low a (omega (arith, c .few)))
 
 -- a second name is a name
 pub width-names : (c : Counts) (s : Symbol) (y : ℕ) → y < width c s → y < c .names

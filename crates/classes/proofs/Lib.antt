@@ -5,3 +5,4 @@ pub mod Meeting
 pub mod Gathering
 pub mod Deciding
 pub mod Whole
+pub mod Writing

@@ -40,7 +40,7 @@ module _ (c : Counts) (marks : Branch) (leader : ℕ → ℕ) (small : (a : ℕ)
   Rels = (q : ℕ) × (q < c .relations) × BothAt c marks leader (Rel′ q)
 
   -- names whose leaders have one place have the same leaders
-  apart : (a b x y : ℕ) → a < c .names → b < c .names → x < c .names → y < c .names → slot-of leader a b ≡ slot-of leader x y → (leader a ≡ leader x) × (leader b ≡ leader y)
+  pub apart : (a b x y : ℕ) → a < c .names → b < c .names → x < c .names → y < c .names → slot-of leader a b ≡ slot-of leader x y → (leader a ≡ leader x) × (leader b ≡ leader y)
   apart a b x y ha hb hx hy e =
       let h = small b hb in
       let k = small y hy in

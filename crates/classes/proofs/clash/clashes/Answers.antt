@@ -1,16 +1,9 @@
-use mathlib.Core.Path.{refl}
 use mathlib.Core.Bool.{true}
-use Prim.Native.Nat.{ℕ, _<_}
-use native.Mathlib.Omega.{arith}
 use Rattle.std.proofs.shelf.Ways.{not-from-decides}
-use Rattle.syntax.specs.declared.counts.Counts.{Counts}
-use Rattle.classes.specs.declared.table.ClassTable.{ClassTable}
 use Rattle.classes.specs.Leaders.{leader-of}
+use Rattle.classes.proofs.Gathering.{small}
 use Rattle.classes.proofs.Whole.{by-props, by-sames, clash-too, found-by, last-part}
 use Rattle.classes.proofs.clash.clashes.Needs as need
-
-small : (c : Counts) (t : ClassTable) (a : ℕ) → a < c .names → leader-of t a < 32
-small c t a h = omega (arith, c .few, t .low a (omega (arith, c .few)))
 
 pub returns-then-sames-clash : need.returns-then-sames-clash
 returns-then-sames-clash g c =
