@@ -3,3 +3,4 @@ pub mod Refused
 pub mod Packs
 pub mod Rows
 pub mod Zero
+pub mod Trails

@@ -62,35 +62,35 @@ weight-fits b (suc (suc (suc zero))) v hb hj hv = (omega arith, omega arith, ome
 weight-fits b (suc (suc (suc (suc j)))) v hb hj hv = (omega arith, omega arith, omega arith)
 
 beside : (bs : List ℕ) (k b i : ℕ) → k / 4 < length bs
-  → ((j : ℕ) → j < 4 → (j ≡ k % 4 → ⊥) → digit b j ≡ digit (getD bs (k / 4) 0) j) → (i ≡ k → ⊥)
-  → digit (getD (set bs (k / 4) b) (i / 4) 0) (i % 4) ≡ digit (getD bs (i / 4) 0) (i % 4)
+    → ((j : ℕ) → j < 4 → (j ≡ k % 4 → ⊥) → digit b j ≡ digit (getD bs (k / 4) 0) j) → (i ≡ k → ⊥)
+    → digit (getD (set bs (k / 4) b) (i / 4) 0) (i % 4) ≡ digit (getD bs (i / 4) 0) (i % 4)
 beside bs k b i h other ne = elim (cases-eq (i / 4) (k / 4)) [
-    inl e ↦
+  | inl e ↦
       ap (λ x. digit (getD (set bs (k / 4) b) x 0) (i % 4)) e ∙ ap (λ x. digit x (i % 4)) (getD-set-same bs (k / 4) b 0 h)
       ∙ other (i % 4) (omega arith) (λ p. ne (omega arith)) ∙ ap (λ x. digit (getD bs x 0) (i % 4)) (sym e)
   | inr n ↦ ap (λ x. digit x (i % 4)) (getD-set-other bs (k / 4) (i / 4) b 0 n)
-  ]
+]
 
 -- what a write does to the marks
 pub packed-set : (bs : List ℕ) (k b v : ℕ) → k < packed-reach bs → digit b (k % 4) ≡ v
-  → ((j : ℕ) → j < 4 → (j ≡ k % 4 → ⊥) → digit b j ≡ digit (getD bs (k / 4) 0) j)
-  → packed-marks (set bs (k / 4) b) ≡ set (packed-marks bs) k (meant v)
+    → ((j : ℕ) → j < 4 → (j ≡ k % 4 → ⊥) → digit b j ≡ digit (getD bs (k / 4) 0) j)
+    → packed-marks (set bs (k / 4) b) ≡ set (packed-marks bs) k (meant v)
 packed-set bs k b v h here other =
     let l : packed-reach (set bs (k / 4) b) ≡ packed-reach bs = ap (λ m. 4 * min m 2560) (length-set bs (k / 4) b) in
     let in-bytes : k / 4 < length bs = omega arith in
     ext-getD Open (packed-marks (set bs (k / 4) b)) (set (packed-marks bs) k (meant v))
     (packed-length (set bs (k / 4) b) ∙ l ∙ sym (length-set (packed-marks bs) k (meant v) ∙ packed-length bs))
     (λ i hi.
-      let i< : i < packed-reach bs = omega (arith, packed-length (set bs (k / 4) b), l) in
-      let i<′ : i < packed-reach (set bs (k / 4) b) = omega (arith, l) in
-      packed-at (set bs (k / 4) b) i i<′ ∙ (elim (cases-eq i k) [
-        inl e ↦
+    let i< : i < packed-reach bs = omega (arith, packed-length (set bs (k / 4) b), l) in
+    let i<′ : i < packed-reach (set bs (k / 4) b) = omega (arith, l) in
+    packed-at (set bs (k / 4) b) i i<′ ∙ (elim (cases-eq i k) [
+      | inl e ↦
           let k< : k < length (packed-marks bs) = omega (arith, packed-length bs) in
           let there : mark-at (set bs (k / 4) b) k ≡ meant v = ap (λ x. meant (digit x (k % 4))) (getD-set-same bs (k / 4) b 0 in-bytes) ∙ ap meant here in
           ap (mark-at (set bs (k / 4) b)) e ∙ there ∙ sym (ap (λ x. getD (set (packed-marks bs) k (meant v)) x Open) e ∙ getD-set-same (packed-marks bs) k (meant v) Open k<)
       | inr ne ↦
           ap meant (beside bs k b i in-bytes other ne) ∙ sym (packed-at bs i i<) ∙ sym (getD-set-other (packed-marks bs) k i (meant v) Open ne)
-      ]))
+    ]))
 
 zero-digit : (j : ℕ) → digit 0 j ≡ 0
 zero-digit j = ap (λ x. x % 4) (zero-div (4 ^ j))
@@ -121,11 +121,11 @@ wiped-open bs =
     ext-getD Open (packed-marks (wiped bs)) (replicate (packed-reach bs) Open)
     (packed-length (wiped bs) ∙ l ∙ sym (length-replicate (packed-reach bs) Open))
     (λ i hi.
-      let i< : i < packed-reach bs = omega (arith, packed-length (wiped bs), l) in
-      let i<′ : i < packed-reach (wiped bs) = omega (arith, l) in
-      let q : i / 4 < n = omega arith in
-      let z : getD (wiped bs) (i / 4) 0 ≡ 0 = getD-append-left (replicate n 0) (drop n bs) 0 (i / 4) (omega (arith, length-replicate {A = ℕ} n 0)) ∙ getD-replicate n (i / 4) 0 0 q in
-      packed-at (wiped bs) i i<′ ∙ ap (λ x. meant (digit x (i % 4))) z ∙ ap meant (zero-digit (i % 4)) ∙ sym (getD-replicate (packed-reach bs) i Open Open i<))
+    let i< : i < packed-reach bs = omega (arith, packed-length (wiped bs), l) in
+    let i<′ : i < packed-reach (wiped bs) = omega (arith, l) in
+    let q : i / 4 < n = omega arith in
+    let z : getD (wiped bs) (i / 4) 0 ≡ 0 = getD-append-left (replicate n 0) (drop n bs) 0 (i / 4) (omega (arith, length-replicate {A = ℕ} n 0)) ∙ getD-replicate n (i / 4) 0 0 q in
+    packed-at (wiped bs) i i<′ ∙ ap (λ x. meant (digit x (i % 4))) z ∙ ap meant (zero-digit (i % 4)) ∙ sym (getD-replicate (packed-reach bs) i Open Open i<))
 
 opens-cleared : (ms : List Mark) → replicate (length ms) Open ≡ cleared ms
 opens-cleared [] = refl
@@ -139,11 +139,11 @@ past-zeroed n bs = drop-at (replicate n 0) (drop n bs) n (length-replicate {A = 
 
 pub wiped-beyond : (bs : List ℕ) → beyond (wiped bs) ≡ beyond bs
 wiped-beyond bs = elim (cases-lt (length bs) 2560) [
-    inl h ↦ drop-all 2560 (wiped bs) (omega (arith, wiped-length bs)) ∙ sym (drop-all 2560 bs (omega arith))
+  | inl h ↦ drop-all 2560 (wiped bs) (omega (arith, wiped-length bs)) ∙ sym (drop-all 2560 bs (omega arith))
   | inr h ↦
       let e : min (length bs) 2560 ≡ 2560 = omega arith in
       ap (λ n. drop 2560 (zeroed n bs)) e ∙ past-zeroed 2560 bs
-  ]
+]
 
 stands-meant : (d : ℕ) → (d ≡ 0 → ⊥) → stands (meant d) ≡ 1
 stands-meant d h =

@@ -9,7 +9,7 @@ use lib.Dec.{leb, eqb}
 use lib.ListN.{length, getD}
 use Rattle.std.specs.declared.option.Option.{Option}
 use Rattle.std.specs.declared.option.Option.the-variants.{Some, None}
-use Rattle.std.proofs.shelf.Tests.{le-leb, lt-leb, leb-false, eq-eqb, ne-eqb, eqb-false, cond-true, cond-false, cases-bool}
+use Rattle.std.proofs.shelf.Tests.{le-leb, lt-leb, leb-false, eq-eqb, ne-eqb, eqb-false, cond-true, cond-false, cases-eq}
 use Rattle.syntax.specs.declared.types.Mark.{Mark}
 use Rattle.syntax.specs.declared.types.Mark.the-variants.{Open, Yes, No}
 use Rattle.syntax.specs.declared.types.Refusal.{Refusal}
@@ -58,6 +58,13 @@ module _ (ms : List Mark) (a : ℕ) where
       let p = passed (leb (length ms) a) BeyondReach _ h in
       let q = passed (eqb (stands (getD ms a Open)) 0) NotStanding None (p .1) in
       (leb-false _ _ (p .0), not-zero (getD ms a Open) (eqb-false _ _ (q .0)))
+
+  -- an untell that is refused below the reach
+  pub untell-open : (e : Refusal) → a < length ms → untell-refusal ms a ≡ Some e → getD ms a Open ≡ Open
+  untell-open e lt h = elim (cases-eq (stands (getD ms a Open)) 0) [
+    | inl o ↦ open-from (getD ms a Open) o
+    | inr n ↦ let d = done-untell lt (not-zero (getD ms a Open) n) in let z : _≡_ {A = ℕ} 0 1 = cc in absurd (omega arith)
+  ]
 
   module _ (room : ℕ) where
     pub far-tell : length ms ≤ a → tell-refusal ms room a ≡ Some BeyondReach

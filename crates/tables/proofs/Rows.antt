@@ -45,9 +45,9 @@ listed-length (r ∷ rs) = length-set (listed rs) (r .atom) (signed (r .sign)) �
 -- a mark written over an open one raises the count, over any other not
 set-le : (ms : List Mark) (k : ℕ) (b : Bool) → standing (set ms k (signed b)) ≤ standing ms + 1
 set-le ms k b = elim (cases-lt k (length ms)) [
-    inl h ↦ omega (arith, standing-set ms k (signed b) h, stands-signed b)
+  | inl h ↦ omega (arith, standing-set ms k (signed b) h, stands-signed b)
   | inr h ↦ omega (arith, ap standing (set-past ms k (signed b) h))
-  ]
+]
 
 pub count-le : (rs : List Row) → standing (listed rs) ≤ length rs
 count-le [] = omega (arith, none-stand)
@@ -56,13 +56,13 @@ count-le (r ∷ rs) = omega (arith, set-le (listed rs) (r .atom) (r .sign), coun
 -- the first row's atom is in reach, and no other row has it
 pub first : (r : Row) (rs : List Row) → Each (r ∷ rs) → Each rs × (r .atom < length (listed rs)) × (stands (getD (listed rs) (r .atom) Open) ≡ 0)
 first r rs e = elim (cases-lt (r .atom) (length (listed rs))) [
-    inl h ↦
+  | inl h ↦
       let s = standing-set (listed rs) (r .atom) (signed (r .sign)) h in
       let o = stands-signed (r .sign) in
       let l = count-le rs in
       (omega arith, h, omega arith)
   | inr h ↦ absurd (omega (arith, ap standing (set-past (listed rs) (r .atom) (signed (r .sign)) h), count-le rs))
-  ]
+]
 
 pub set-open : (ms : List Mark) (k : ℕ) → stands (getD ms k Open) ≡ 0 → set ms k Open ≡ ms
 set-open ms k o = ap (set ms k) (sym (open-from (getD ms k Open) o)) ∙ set-getD ms k Open
@@ -108,9 +108,9 @@ push-each rs z h e o =
 
 in-reach : (rs : List Row) (z : Row) → Each (rs ++ (z ∷ [])) → Each rs → stands (getD (listed rs) (z .atom) Open) ≡ 0 → z .atom < length (listed rs)
 in-reach rs z e i o = elim (cases-lt (z .atom) (length (listed rs))) [
-    inl h ↦ h
+  | inl h ↦ h
   | inr h ↦ absurd (omega (arith, e, i, ap standing (push rs z i o), ap standing (set-past (listed rs) (z .atom) (signed (z .sign)) h), length-push rs z))
-  ]
+]
 
 -- the last row's atom is in reach, and no row before it has it
 pub last : (rs : List Row) (z : Row) → Each (rs ++ (z ∷ [])) → Each rs × (stands (getD (listed rs) (z .atom) Open) ≡ 0)
@@ -124,13 +124,14 @@ last (r ∷ rs) z e =
     let z-stands : stands (getD (set (listed rs) (z .atom) (signed (z .sign))) (z .atom) Open) ≡ 1 = ap stands (getD-set-same (listed rs) (z .atom) (signed (z .sign)) Open z<) ∙ stands-signed (z .sign) in
     let ne : r .atom ≢ z .atom = apart (set (listed rs) (z .atom) (signed (z .sign))) (r .atom) (z .atom) r-open z-stands in
     let r-open′ : stands (getD (listed rs) (r .atom) Open) ≡ 0 = sym (ap stands (getD-set-other (listed rs) (z .atom) (r .atom) (signed (z .sign)) Open ne)) ∙ r-open in
-    let r< : r .atom < length (listed rs) = omega (arith, f .1, listed-length rs, listed-length (rs ++ (z ∷ []))) in
-    ( omega (arith, standing-set (listed rs) (r .atom) (signed (r .sign)) r<, stands-signed (r .sign), i .0, r-open′)
-    , ap stands (getD-set-other (listed rs) (r .atom) (z .atom) (signed (r .sign)) Open (λ q. ne (sym q))) ∙ i .1)
+    let r< : r .atom < length (listed rs) = omega (arith, f .1, listed-length rs, listed-length (rs ++ (z ∷ []))) in (
+      omega (arith, standing-set (listed rs) (r .atom) (signed (r .sign)) r<, stands-signed (r .sign), i .0, r-open′),
+      ap stands (getD-set-other (listed rs) (r .atom) (z .atom) (signed (r .sign)) Open (λ q. ne (sym q))) ∙ i .1,
+    )
 
 -- a row replaced by a new one
 pub replaced : (rs : List Row) (i : ℕ) (d z : Row) → i < length rs → Each rs → stands (getD (listed rs) (z .atom) Open) ≡ 0
-  → listed (set rs i z) ≡ set (set (listed rs) (getD rs i d .atom) Open) (z .atom) (signed (z .sign))
+    → listed (set rs i z) ≡ set (set (listed rs) (getD rs i d .atom) Open) (z .atom) (signed (z .sign))
 replaced [] i d z h e o = absurd (omega arith)
 replaced (r ∷ rs) zero d z h e o =
     let f = first r rs e in
@@ -150,9 +151,9 @@ replaced (r ∷ rs) (suc i) d z h e o =
 -- an atom that stands is within reach
 up-within : (ms : List Mark) (k : ℕ) → stands (getD ms k Open) ≡ 1 → k < length ms
 up-within ms k u = elim (cases-lt k (length ms)) [
-    inl h ↦ h
+  | inl h ↦ h
   | inr h ↦ absurd (omega (arith, u, ap stands (getD-past ms k Open h)))
-  ]
+]
 
 pub take-set-any : {X : Type 0} (n : ℕ) (xs : List X) (i : ℕ) (y : X) → take n (set xs i y) ≡ set (take n xs) i y
 take-set-any zero xs i y = refl
@@ -162,7 +163,7 @@ take-set-any (suc n) (x ∷ xs) (suc i) y = ap (λ l. x ∷ l) (take-set-any n x
 
 -- the row at i is given up: the last row takes its place
 pub removed : (rs : List Row) (i : ℕ) (d z : Row) → Each (rs ++ (z ∷ [])) → i ≤ length rs
-  → (listed (set rs i z) ≡ set (listed (rs ++ (z ∷ []))) (getD (rs ++ (z ∷ [])) i d .atom) Open) × Each (set rs i z)
+    → (listed (set rs i z) ≡ set (listed (rs ++ (z ∷ []))) (getD (rs ++ (z ∷ [])) i d .atom) Open) × Each (set rs i z)
 removed rs i d z e h =
     let l = last rs z e in
     let p = push rs z (l .0) (l .1) in
@@ -171,7 +172,7 @@ removed rs i d z e h =
     let x = getD (rs ++ (z ∷ [])) i d in
     let up = stands-at (rs ++ (z ∷ [])) i d i< e in
     let m : listed (set rs i z) ≡ set full (x .atom) Open = elim (cases-lt i (length rs)) [
-        inl lt ↦
+      | inl lt ↦
           let y = getD rs i d in
           let same : x ≡ y = getD-append-left rs (z ∷ []) d i lt in
           let ne : z .atom ≢ y .atom = apart (listed rs) (z .atom) (y .atom) (l .1) (stands-at rs i d lt (l .0)) in
@@ -182,7 +183,7 @@ removed rs i d z e h =
           let same : x ≡ z = getD-push rs z d i (omega arith) in
           ap listed (set-past rs i z ge)
           ∙ sym (ap (λ k. set full (k .atom) Open) same ∙ ap (λ k. set k (z .atom) Open) p ∙ set-set (listed rs) (z .atom) (signed (z .sign)) Open ∙ set-open (listed rs) (z .atom) (l .1))
-      ] in
+    ] in
     let x< : x .atom < length full = up-within full (x .atom) up in
     (m, omega (arith, ap standing m, standing-set full (x .atom) Open x<, up, e, length-push rs z, length-set rs i z))
 
@@ -198,7 +199,7 @@ all-cleared rs = cleared-opens 10240 (listed rs) (listed-length rs)
 
 -- the same, over the slots
 pub removal : (rows : List Row) (n len i : ℕ) (d : Row) → n + 1 ≡ len → len ≤ length rows → i ≤ n → Each (take len rows)
-  → (listed (take n (set rows i (getD rows n d))) ≡ set (listed (take len rows)) (getD (take len rows) i d .atom) Open) × Each (take n (set rows i (getD rows n d)))
+    → (listed (take n (set rows i (getD rows n d))) ≡ set (listed (take len rows)) (getD (take len rows) i d .atom) Open) × Each (take n (set rows i (getD rows n d)))
 removal rows n len i d el h hi e =
     let z = getD rows n d in
     let t : take len rows ≡ take n rows ++ (z ∷ []) = ap (λ k. take k rows) (sym el) ∙ take-more rows n d (omega arith) in
@@ -208,7 +209,7 @@ removal rows n len i d el h hi e =
 
 -- one row more, over the slots
 pub addition : (rows : List Row) (n : ℕ) (z : Row) → n < length rows → z .atom < 10240 → Each (take n rows) → stands (getD (listed (take n rows)) (z .atom) Open) ≡ 0
-  → (listed (take (n + 1) (set rows n z)) ≡ set (listed (take n rows)) (z .atom) (signed (z .sign))) × Each (take (n + 1) (set rows n z))
+    → (listed (take (n + 1) (set rows n z)) ≡ set (listed (take n rows)) (z .atom) (signed (z .sign))) × Each (take (n + 1) (set rows n z))
 addition rows n z h hz e o =
     let t : take (n + 1) (set rows n z) ≡ take n rows ++ (z ∷ []) = take-more-set rows n z h in
     (ap listed t ∙ push (take n rows) z e o, subst Each (sym t) (push-each (take n rows) z hz e o))

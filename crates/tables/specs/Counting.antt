@@ -38,9 +38,9 @@ Fewer = (A k : ℕ) (ms : List Mark) → Open-from A ms → k < A → getD ms k 
 -- what a tell answers and leaves is fixed by the marks before it and by the room
 abbrev pub Told-once : Type 0
 Told-once = (ms ns ns′ : List Mark) (room atom : ℕ) (sign : Bool) (r r′ : Result Unit Refusal)
-  → Told ms room atom sign ns r → Told ms room atom sign ns′ r′ → (r ≡ r′) × (ns ≡ ns′)
+    → Told ms room atom sign ns r → Told ms room atom sign ns′ r′ → (r ≡ r′) × (ns ≡ ns′)
 
 -- what an untell answers and leaves is fixed by the marks before it
 abbrev pub Untold-once : Type 0
 Untold-once = (ms ns ns′ : List Mark) (atom : ℕ) (r r′ : Result Unit Refusal)
-  → Untold ms atom ns r → Untold ms atom ns′ r′ → (r ≡ r′) × (ns ≡ ns′)
+    → Untold ms atom ns r → Untold ms atom ns′ r′ → (r ≡ r′) × (ns ≡ ns′)

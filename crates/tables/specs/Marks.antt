@@ -43,16 +43,16 @@ ask-refusal ms atom = first-of ((leb (length ms) atom, BeyondReach) ∷ [])
 abbrev pub tell-refusal : List Mark → ℕ → ℕ → Option Refusal
 tell-refusal ms room atom = first-of (
     (leb (length ms) atom, BeyondReach)
-  ∷ (eqb (stands (getD ms atom Open)) 1, Standing)
-  ∷ (leb room (standing ms), TableFull)
-  ∷ [])
+    ∷ (eqb (stands (getD ms atom Open)) 1, Standing)
+    ∷ (leb room (standing ms), TableFull)
+    ∷ [])
 
 -- why an untell is refused, if it is: the topmost cause
 abbrev pub untell-refusal : List Mark → ℕ → Option Refusal
 untell-refusal ms atom = first-of (
     (leb (length ms) atom, BeyondReach)
-  ∷ (eqb (stands (getD ms atom Open)) 0, NotStanding)
-  ∷ [])
+    ∷ (eqb (stands (getD ms atom Open)) 0, NotStanding)
+    ∷ [])
 
 -- an ask answers the atom's mark, or why not
 abbrev pub Asked : List Mark → ℕ → Result Mark Refusal → Type 0

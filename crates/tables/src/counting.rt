@@ -11,5 +11,4 @@ pub fn counting_laws() -> ()
     ensures fewer { λ _. ⌜ Fewer ⌝ }
     ensures told { λ _. ⌜ Told-once ⌝ }
     ensures untold { λ _. ⌜ Untold-once ⌝ }
-{
-}
+{}

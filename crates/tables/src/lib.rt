@@ -5,4 +5,4 @@ pub mod packed;
 pub mod row;
 pub mod stack;
 pub mod table;
-//pub mod walk;
+pub mod walk;

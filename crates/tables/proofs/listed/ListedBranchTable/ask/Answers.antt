@@ -32,6 +32,7 @@ returns c =
     let h : at < s .len = omega arith in
     let n = length-take-le (s .len) (s .rows .now) (s .within) in
     let here = sign-at rs at no-row (omega arith) (s .each) in
-    let which = c .place-at .ensures .found no-row h in
-    ( near-ask (listed rs) (c .args .atom) (omega (arith, listed-length rs))
-    , c .mark-for .ensures ∙ sym (ap (λ (r : Row). signed (r .sign)) (getD-take (s .len) (s .rows .now) at no-row h)) ∙ sym here ∙ ap (λ k. getD (listed rs) k Open) which)
+    let which = c .place-at .ensures .found no-row h in (
+      near-ask (listed rs) (c .args .atom) (omega (arith, listed-length rs)),
+      c .mark-for .ensures ∙ sym (ap (λ (r : Row). signed (r .sign)) (getD-take (s .len) (s .rows .now) at no-row h)) ∙ sym here ∙ ap (λ k. getD (listed rs) k Open) which,
+    )

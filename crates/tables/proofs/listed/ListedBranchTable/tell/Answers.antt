@@ -29,7 +29,9 @@ returns-then-place-self c =
     let which = c .place .ensures .found no-row (c .if-place-self .taken) in
     record {
       told = (up-tell (listed rs) (c .args .atom) (length (s .rows .now)) (omega (arith, listed-length rs)) (sym (ap (λ k. stands (getD (listed rs) k Open)) which) ∙ up), refl);
-      kept = refl; room = refl; loan = refl;
+      kept = refl;
+      room = refl;
+      loan = refl;
     }
 
 pub returns-then-self : need.returns-then-self
@@ -39,7 +41,9 @@ returns-then-self c =
     let n = length-take-le (s .len) (s .rows .now) (s .within) in
     record {
       told = (full-tell (listed rs) (c .args .atom) (length (s .rows .now)) (omega (arith, listed-length rs)) (c .place .ensures .absent (omega arith)) (omega (arith, s .each)), refl);
-      kept = refl; room = refl; loan = refl;
+      kept = refl;
+      room = refl;
+      loan = refl;
     }
 
 pub returns : need.returns
@@ -49,9 +53,10 @@ returns c =
     let n = length-take-le (s .len) (s .rows .now) (s .within) in
     let was = c .replace-rows .ensures .value in
     record {
-      told =
-        ( done-tell (listed rs) (c .args .atom) (length (s .rows .now)) (omega (arith, listed-length rs)) (c .place .ensures .absent (omega arith)) (omega (arith, s .each, s .within))
-        , c .add-row .ensures .told ∙ ap (λ (t : ListedTable). set (listed (take (t .len) (t .rows .now))) (c .args .atom) (signed (c .args .sign))) was);
+      told = (
+        done-tell (listed rs) (c .args .atom) (length (s .rows .now)) (omega (arith, listed-length rs)) (c .place .ensures .absent (omega arith)) (omega (arith, s .each, s .within)),
+        c .add-row .ensures .told ∙ ap (λ (t : ListedTable). set (listed (take (t .len) (t .rows .now))) (c .args .atom) (signed (c .args .sign))) was,
+      );
       kept = tt;
       room = c .add-row .kept .rows ∙ ap (λ (t : ListedTable). length (t .rows .now)) was;
       loan = ap (λ (t : ListedTable). record { name = t .rows .name; spare = [] }) was;

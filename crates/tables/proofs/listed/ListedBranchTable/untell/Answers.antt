@@ -26,7 +26,9 @@ returns-then-at-self c =
     let rs = take (s .len) (s .rows .now) in
     record {
       untold = (open-untell (listed rs) (c .args .atom) (omega (arith, listed-length rs)) (c .place-at .ensures .absent (c .if-at-self .taken)), refl);
-      kept = refl; room = refl; loan = refl;
+      kept = refl;
+      room = refl;
+      loan = refl;
     }
 
 pub returns : need.returns
@@ -40,10 +42,11 @@ returns c =
     let r = c .replace-rows .result in
     let e : r .len - 1 + 1 ≡ r .len = omega (arith, ap (λ (t : ListedTable). t .len) was) in
     record {
-      untold =
-        ( done-untell (listed rs) (c .args .atom) (omega (arith, listed-length rs)) (sym (ap (λ k. stands (getD (listed rs) k Open)) which) ∙ up)
-        , c .remove-row .ensures .untold ∙ ap (λ k. set (listed (take k (r .rows .now))) (c .args .atom) Open) e
-          ∙ ap (λ (t : ListedTable). set (listed (take (t .len) (t .rows .now))) (c .args .atom) Open) was);
+      untold = (
+        done-untell (listed rs) (c .args .atom) (omega (arith, listed-length rs)) (sym (ap (λ k. stands (getD (listed rs) k Open)) which) ∙ up),
+        c .remove-row .ensures .untold ∙ ap (λ k. set (listed (take k (r .rows .now))) (c .args .atom) Open) e
+            ∙ ap (λ (t : ListedTable). set (listed (take (t .len) (t .rows .now))) (c .args .atom) Open) was,
+      );
       kept = tt;
       room = c .remove-row .kept .rows ∙ ap (λ (t : ListedTable). length (t .rows .now)) was;
       loan = ap (λ (t : ListedTable). record { name = t .rows .name; spare = [] }) was;

@@ -20,7 +20,9 @@ returns-then-digit-ne0 c =
     let bs = c .args .self .now .bytes .now in
     record {
       told = (up-tell (packed-marks bs) (c .args .atom) (packed-reach bs) (omega (arith, packed-length bs)) (stood _ _ (c .digit .ensures) (c .if-digit-ne0 .taken)), refl);
-      kept = refl; room = refl; loan = refl;
+      kept = refl;
+      room = refl;
+      loan = refl;
     }
 
 pub returns : need.returns
@@ -30,9 +32,10 @@ returns c =
     let near : c .args .atom < length (packed-marks bs) = omega arith in
     let o = lay _ _ (c .digit .ensures) (c .if-digit-ne0 .left) in
     record {
-      told =
-        ( done-tell (packed-marks bs) (c .args .atom) (packed-reach bs) near o (omega (arith, standing-lt (packed-marks bs) (c .args .atom) near o))
-        , c .put-digit .ensures .marks ∙ ap (set (packed-marks bs) (c .args .atom)) (c .digit-for .ensures .means));
+      told = (
+        done-tell (packed-marks bs) (c .args .atom) (packed-reach bs) near o (omega (arith, standing-lt (packed-marks bs) (c .args .atom) near o)),
+        c .put-digit .ensures .marks ∙ ap (set (packed-marks bs) (c .args .atom)) (c .digit-for .ensures .means),
+      );
       kept = tt;
       room = ap (λ m. 4 * min m 2560) (c .put-digit .ensures .length);
       loan = ap (λ s. record { name = c .args .self .now .bytes .name; spare = s }) (c .put-digit .ensures .beyond);

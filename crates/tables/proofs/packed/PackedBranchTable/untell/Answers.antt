@@ -19,16 +19,19 @@ returns-then-digit-eq0 c =
     let bs = c .args .self .now .bytes .now in
     record {
       untold = (open-untell (packed-marks bs) (c .args .atom) (omega (arith, packed-length bs)) (lay _ _ (c .digit .ensures) (c .if-digit-eq0 .taken)), refl);
-      kept = refl; room = refl; loan = refl;
+      kept = refl;
+      room = refl;
+      loan = refl;
     }
 
 pub returns : need.returns
 returns c =
     let bs = c .args .self .now .bytes .now in
     record {
-      untold =
-        ( done-untell (packed-marks bs) (c .args .atom) (omega (arith, packed-length bs)) (stood _ _ (c .digit .ensures) (c .if-digit-eq0 .left))
-        , c .put-digit .ensures .marks);
+      untold = (
+        done-untell (packed-marks bs) (c .args .atom) (omega (arith, packed-length bs)) (stood _ _ (c .digit .ensures) (c .if-digit-eq0 .left)),
+        c .put-digit .ensures .marks,
+      );
       kept = tt;
       room = ap (λ m. 4 * min m 2560) (c .put-digit .ensures .length);
       loan = ap (λ s. record { name = c .args .self .now .bytes .name; spare = s }) (c .put-digit .ensures .beyond);
