@@ -1,0 +1,6 @@
+pub mod Judged
+pub mod Signs
+pub mod Branch
+pub mod Scans
+pub mod Turns
+pub mod Views
