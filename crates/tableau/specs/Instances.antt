@@ -40,3 +40,14 @@ nth-names r k = record {
   z = k / r .w % r .z;
   w = k % r .w;
 }
+
+-- each range has 1 to 32 names
+pub record Narrow (r : Ranges) : Type 0 where
+  pub x-some : 1 ≤ r .x
+  pub y-some : 1 ≤ r .y
+  pub z-some : 1 ≤ r .z
+  pub w-some : 1 ≤ r .w
+  pub x-few : r .x ≤ 32
+  pub y-few : r .y ≤ 32
+  pub z-few : r .z ≤ 32
+  pub w-few : r .w ≤ 32

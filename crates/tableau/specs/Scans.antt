@@ -1,8 +1,9 @@
 -- What a look at an instance finds on a branch.
 use mathlib.Core.Path.{_≡_}
 use mathlib.Core.Logic.{_⊎_}
-use mathlib.Core.List.{List}
-use Prim.Native.Nat.{_<_}
+use mathlib.Core.List.{List, []}
+use Prim.Native.Nat.{ℕ, _<_}
+use lib.ListN.{getD}
 use Rattle.std.specs.shelf.Lists.{All, Has}
 use Rattle.syntax.specs.declared.types.Mark.{Mark}
 use Rattle.syntax.specs.declared.counts.Counts.{Counts}
@@ -16,7 +17,8 @@ use Rattle.tableau.specs.declared.types.Status.{Status}
 use Rattle.tableau.specs.declared.types.Status.the-variants.{Fulfilled, Broken, Forced, Loose}
 use Rattle.tableau.specs.declared.types.Survey.{Survey}
 use Rattle.tableau.specs.declared.types.Survey.the-variants as survey
-use Rattle.tableau.specs.Signs.{Valuation, Holds, Agrees, Some-of, StandsIn, DeniedIn, OpenIn, Modelled}
+use Rattle.tableau.specs.Signs.{Valuation, Holds, Agrees, Some-of, StandsIn, DeniedIn, OpenIn, instance, Modelled}
+use Rattle.tableau.specs.Instances.{names-of, ranges, size, nth-names}
 use Rattle.tableau.specs.Branch.{Models}
 
 abbrev pub Looked : List Mark → SignedAtom → Look → Type 0
@@ -54,3 +56,10 @@ abbrev pub Surveyed : Counts → List Clause → List Mark → Survey → Type 0
 Surveyed c clauses ms survey.Fulfilled = AllFulfilled c clauses ms
 Surveyed c clauses ms survey.Broken = NoModel (Modelled c clauses) ms
 Surveyed c clauses ms (survey.Split l) = (l .atom < atoms c) × OpenIn ms l
+
+-- the same of one clause: every instance is fulfilled at its own variables
+abbrev pub Clause-surveyed : Counts → List Clause → List Mark → ℕ → Survey → Type 0
+Clause-surveyed c clauses ms i survey.Fulfilled =
+    (k : ℕ) → k < size (ranges c (getD clauses i [])) → Some-of (StandsIn ms) (instance c (names-of (nth-names (ranges c (getD clauses i [])) k)) (getD clauses i []))
+Clause-surveyed c clauses ms i survey.Broken = NoModel (Modelled c clauses) ms
+Clause-surveyed c clauses ms i (survey.Split l) = (l .atom < atoms c) × OpenIn ms l

@@ -1,5 +1,7 @@
 // Judging: whether some interpretation satisfies every clause of a book, and if so one that does.
 pub mod verdict;
 pub(crate) mod moves;
+pub(crate) mod ranges;
 pub(crate) mod scan;
+pub(crate) mod survey;
 pub(crate) mod types;
