@@ -1,0 +1,4 @@
+pub mod Joining
+pub mod Marking
+pub mod Clashing
+pub mod Meeting

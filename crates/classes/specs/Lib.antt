@@ -1,0 +1,5 @@
+pub mod Leaders
+pub mod Symbols
+pub mod Clashes
+pub mod Models
+pub mod Theorems
