@@ -11,7 +11,7 @@ use Rattle.syntax.specs.declared.types.Mark.the-variants.{Open}
 use Rattle.syntax.specs.declared.counts.Counts.{Counts}
 use Rattle.syntax.specs.Numbers.{atoms}
 use Rattle.semantics.specs.Meaning.{Clause}
-use Rattle.semantics.specs.Branch.{Clash, Fulfilled}
+use Rattle.semantics.specs.Branch.{Clash, Fulfilled, ClassTable}
 use Rattle.tables.specs.declared.stack.Choice.{Choice}
 use Rattle.tables.specs.Marks.{signed, standing}
 use Rattle.tableau.specs.declared.types.SignedAtom.{SignedAtom}
@@ -48,6 +48,10 @@ pub record Chosen (l : SignedAtom) (m m′ : Moment) : Type 0 where
 abbrev pub Modelless : Models → Type 0
 Modelless M = (v : Valuation) → M v → ⊥
 
+abbrev pub pass-of : Bool → Pass
+pass-of true = pass.Moved
+pass-of false = pass.Rest
+
 module _ (c : Counts) (clauses : List Clause) where
   -- the invariant
   abbrev pub Sound-state : Moment → Type 0
@@ -75,6 +79,11 @@ module _ (c : Counts) (clauses : List Clause) where
     pub state : Sound-state m′
     pub falls : weight-at m′ ≤ weight-at m
 
+  -- the same, by whether something was told
+  abbrev pub Gone : Moment → Moment → Bool → Type 0
+  Gone m m′ true = Lighter m m′
+  Gone m m′ false = Steady m m′
+
   -- something was told and nothing clashes; or nothing was; or no model agrees with the branch
   abbrev pub Passed : Moment → Moment → Pass → Type 0
   Passed m m′ pass.Moved = Lighter m m′ × (Clash c (m′ .marks) → ⊥)
@@ -96,3 +105,15 @@ module _ (c : Counts) (clauses : List Clause) where
   abbrev pub Decided : Moment → Moment → Bool → Type 0
   Decided m m′ true = Steady m m′ × Fulfilled c clauses (m′ .marks) × (Clash c (m′ .marks) → ⊥)
   Decided m m′ false = Empty m m′
+
+  -- the invariant between the parts of a turn: nothing clashes, and the class table fits
+  pub record Ready (m : Moment) (leader : ℕ → ℕ) : Type 0 where
+    pub state : Sound-state m
+    pub calm : Clash c (m .marks) → ⊥
+    pub fits : ClassTable c (m .marks) leader
+
+  -- the class table fits, where the search goes on or has found a branch
+  abbrev pub Fits-after : Moment → (ℕ → ℕ) → Outcome → Type 0
+  Fits-after m leader Done = ClassTable c (m .marks) leader
+  Fits-after m leader Failed = Unit {0}
+  Fits-after m leader Moved = ClassTable c (m .marks) leader

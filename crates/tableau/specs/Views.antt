@@ -4,7 +4,9 @@ use mathlib.Core.Bool.{Bool}
 use lib.ListN.{length}
 use Prim.Native.Nat.{ℕ}
 use Rattle.std.specs.declared.option.Option.{Option}
-use Rattle.semantics.specs.Branch.{Clash}
+use Rattle.semantics.specs.Branch.{Clash, ClassTable as Classes}
+use Rattle.classes.specs.declared.table.ClassTable.{ClassTable}
+use Rattle.classes.specs.Leaders.{leader-of}
 use Rattle.tables.specs.declared.table.BranchTable.{Ghosts as TableGhosts}
 use Rattle.tables.specs.declared.stack.Stack.{Stack}
 use Rattle.tables.specs.declared.stack.Choice.{Choice}
@@ -13,11 +15,10 @@ use Rattle.books.specs.declared.book.Book.{Ghosts as BookGhosts}
 use Rattle.tableau.specs.declared.types.SignedAtom.{SignedAtom}
 use Rattle.tableau.specs.declared.types.Pass.{Pass}
 use Rattle.tableau.specs.declared.types.Outcome.{Outcome}
-use Rattle.tableau.specs.declared.types.Survey.{Survey}
 use Rattle.tableau.specs.Signs.{Modelled}
 use Rattle.tableau.specs.Branch.{Moment}
-use Rattle.tableau.specs.Scans.{NoModel, Surveyed}
-use Rattle.tableau.specs.Turns.{Sound-state, Passed, Flipped, Turned, Decided}
+use Rattle.tableau.specs.Scans.{NoModel, Entails}
+use Rattle.tableau.specs.Turns.{Sound-state, Ready, Steady, Gone, Passed, Flipped, Turned, Fits-after, Decided, weight-at}
 
 abbrev pub moment : {T : Type 0} → TableGhosts T → T → Stack ℕ → Stack Choice → Moment
 moment t table trail choices = record {
@@ -39,8 +40,14 @@ module _ {B : Type 0} (b : BookGhosts B) (book : B) where
   abbrev pub Searching : Moment → Type 0
   Searching m = Sound-state (b .counts book) (b .clauses book) m
 
-  abbrev pub Calm : Moment → Type 0
-  Calm m = Clash (b .counts book) (m .marks) → ⊥
+  abbrev pub Set : Moment → ClassTable → Type 0
+  Set m classes = Ready (b .counts book) (b .clauses book) m (leader-of classes)
+
+  abbrev pub Fits : Moment → ClassTable → Type 0
+  Fits m classes = Classes (b .counts book) (m .marks) (leader-of classes)
+
+  abbrev pub Follows : Moment → SignedAtom → Type 0
+  Follows m l = Entails (Modelled (b .counts book) (b .clauses book)) (m .marks) l
 
   abbrev pub Hopeless : Moment → Type 0
   Hopeless m = NoModel (Modelled (b .counts book) (b .clauses book)) (m .marks)
@@ -56,3 +63,6 @@ module _ {B : Type 0} (b : BookGhosts B) (book : B) where
 
   abbrev pub Decides : Moment → Moment → Bool → Type 0
   Decides m m′ r = Decided (b .counts book) (b .clauses book) m m′ r
+
+  abbrev pub Fits-when : Moment → ClassTable → Outcome → Type 0
+  Fits-when m classes r = Fits-after (b .counts book) (b .clauses book) m (leader-of classes) r

@@ -1,7 +1,10 @@
 // Judging: whether some interpretation satisfies every clause of a book, and if so one that does.
 pub mod verdict;
+pub(crate) mod clash;
 pub(crate) mod moves;
 pub(crate) mod ranges;
 pub(crate) mod scan;
+pub(crate) mod search;
 pub(crate) mod survey;
+pub(crate) mod sweep;
 pub(crate) mod types;
