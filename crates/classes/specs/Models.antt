@@ -17,12 +17,6 @@ use Rattle.semantics.specs.Bytes.{bit, byte-at, Bytes-of}
 abbrev pub Right : Counts → Interpretation → List ℕ → Ground → Type 0
 Right c I bytes g = byte-at c bytes g ≡ bit (value I g)
 
--- memory of which only the first A bytes changed, and no byte from right to wrong
-pub record Better (c : Counts) (I : Interpretation) (before after : List ℕ) : Type 0 where
-  pub long : length after ≡ length before
-  pub rest : drop (atoms c) after ≡ drop (atoms c) before
-  pub kept : (g : Ground) → LawfulGround c g → Right c I before g → Right c I after g
-
 -- memory whose first A bytes tell of each atom of the book whether it holds; the rest is as it was
 pub record Filled (c : Counts) (I : Interpretation) (before after : List ℕ) : Type 0 where
   pub long : length after ≡ length before

@@ -1,5 +1,6 @@
 // What stands on one branch for linked names: which names are linked, whether the branch clashes, and its own model.
 pub mod clash;
+mod gather;
 pub mod marks;
 pub mod model;
 mod symbol;

@@ -1,0 +1,11 @@
+use native.Mathlib.Omega.{arith}
+use borrow.Author.Count.{below-more}
+use Rattle.std.proofs.shelf.Ways.{not-from-decides}
+use Rattle.classes.proofs.Deciding.{none-below}
+use Rattle.classes.proofs.clash.properties_clash.Needs as need
+
+pub loop-p-again : need.loop-p-again
+loop-p-again g c = below-more _ _ (c .loop-p .inv) (not-from-decides (c .symbol-clashes .result) (c .symbol-clashes .ensures) (c .if-symbol-clashes .left))
+
+pub returns : need.returns
+returns g c = none-below _ (c .args .counts .properties) (c .loop-p .p) (omega arith) (c .loop-p .inv)
