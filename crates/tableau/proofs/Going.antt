@@ -17,7 +17,9 @@ use Rattle.tableau.specs.declared.types.SignedAtom.{SignedAtom}
 use Rattle.tableau.specs.Signs.{Valuation, Says, Agrees, OpenIn, Modelled}
 use Rattle.tableau.specs.Branch.{Moment}
 use Rattle.tableau.specs.Scans.{NoModel}
-use Rattle.tableau.specs.Turns.{Sound-state, Lighter, Steady, Gone, Passed, Put, Chosen, pass-of, weight-at}
+use Rattle.tableau.specs.Turns.{Sound-state, Lighter, Steady, Gone, Passed, Turned, pass-of}
+use Rattle.tableau.specs.declared.types.Outcome.{Outcome}
+use Rattle.tableau.specs.declared.types.Outcome.the-variants.{Done, Failed, Moved}
 use Rattle.tables.specs.Marks.{signed}
 use Rattle.tableau.proofs.States.{put-back}
 
@@ -71,3 +73,9 @@ module _ (c : Counts) (l : SignedAtom) (ms ms′ : List Mark) (is : ms′ ≡ se
 
   pub calm-before : (Clash c ms → ⊥) → Clash c (set ms′ (l .atom) Open) → ⊥
   calm-before calm k = calm (subst (Clash c) (put-back l ms ms′ is lies) k)
+
+-- what a part of a turn does after a steady one
+pub turned-on : (c : Counts) (clauses : List Clause) (m m′ m″ : Moment) (r : Outcome) → Steady c clauses m m′ → Turned c clauses m′ m″ r → Turned c clauses m m″ r
+turned-on c clauses m m′ m″ Done s t = (steady-on s (t .0), t .1, t .2)
+turned-on c clauses m m′ m″ Failed s t = record { frame-is = t .frame-is ∙ s .frame-is; none = t .none; clear = t .clear }
+turned-on c clauses m m′ m″ Moved s t = (lighter-on s (t .0), t .1)

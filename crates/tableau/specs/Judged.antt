@@ -1,6 +1,6 @@
 -- What judging promises, whole.
 use mathlib.Core.Path.{_≡_}
-use mathlib.Core.Bool.{_||_}
+use mathlib.Core.Bool.{Bool, true, false, _||_}
 use mathlib.Core.List.{List, [], _∷_}
 use Prim.Native.Nat.{ℕ}
 use lib.Dec.{ltb}
@@ -24,6 +24,7 @@ use Rattle.tables.specs.declared.stack.Choice.{Choice}
 use Rattle.tables.specs.Memory.{Loan}
 use Rattle.tables.specs.Marks.{cleared}
 use Rattle.tables.specs.Counting.{Open-from}
+use Rattle.tableau.specs.Signs.{Clear}
 use Rattle.tableau.specs.declared.verdict.Verdict.{Verdict}
 use Rattle.tableau.specs.declared.verdict.Verdict.the-variants as verdict
 
@@ -43,12 +44,15 @@ lent t table trail choices model =
 
 -- why judging is refused, if it is, the topmost cause first: the table's reach or capacity is below A; a stack has memory for fewer
 -- than A entries; the model memory is shorter than A
-abbrev pub judge-refusal : Counts → Lent → Option Refusal
-judge-refusal c m = first-of (
-    (ltb (length (m .marks)) (atoms c) || ltb (m .room) (atoms c), TableSmall)
-  ∷ (ltb (length (m .trail)) (atoms c) || ltb (length (m .choices)) (atoms c), StackSmall)
-  ∷ (ltb (length (m .model)) (atoms c), MemoryShort)
+abbrev pub size-refusal : Counts → (reach room trail choices model : ℕ) → Option Refusal
+size-refusal c reach room trail choices model = first-of (
+    (ltb reach (atoms c) || ltb room (atoms c), TableSmall)
+  ∷ (ltb trail (atoms c) || ltb choices (atoms c), StackSmall)
+  ∷ (ltb model (atoms c), MemoryShort)
   ∷ [])
+
+abbrev pub judge-refusal : Counts → Lent → Option Refusal
+judge-refusal c m = size-refusal c (length (m .marks)) (m .room) (length (m .trail)) (length (m .choices)) (length (m .model))
 
 -- the sizes stay, and the memory behind the table is the same
 pub record Kept (before after : Lent) : Type 0 where
@@ -99,3 +103,15 @@ abbrev pub One-verdict : Type 0
 One-verdict =
     (c : Counts) (clauses : List Clause) (m m′ m″ : Lent) (one other : Result Verdict Refusal) →
     Judged c clauses m m′ one → Judged c clauses m m″ other → one ≡ other
+
+-- what the search over the marks ms came to: a branch, with its class table, that fulfils the clauses without a clash; or there is no
+-- model, and nothing stands
+pub record Branch-found (c : Counts) (clauses : List Clause) (ms : List Mark) (leader : ℕ → ℕ) : Type 0 where
+  pub classes : ClassTable c ms leader
+  pub no-clash : Clash c ms → ⊥
+  pub fulfilled : Fulfilled c clauses ms
+  pub beyond : Open-from (atoms c) ms
+
+abbrev pub Searched : Counts → List Clause → List Mark → (ℕ → ℕ) → Bool → Type 0
+Searched c clauses ms leader true = Branch-found c clauses ms leader
+Searched c clauses ms leader false = Contradictory c clauses × Clear ms

@@ -63,7 +63,6 @@ module _ (c : Counts) (clauses : List Clause) where
   -- there is no model, and everything was taken back
   pub record Empty (m m′ : Moment) : Type 0 where
     pub frame-is : m′ .frame ≡ m .frame
-    pub reach-is : length (m′ .marks) ≡ length (m .marks)
     pub none : Modelless (Modelled c clauses)
     pub clear : Clear (m′ .marks)
 
@@ -89,6 +88,11 @@ module _ (c : Counts) (clauses : List Clause) where
   Passed m m′ pass.Moved = Lighter m m′ × (Clash c (m′ .marks) → ⊥)
   Passed m m′ pass.Rest = Steady m m′ × (Clash c (m′ .marks) → ⊥)
   Passed m m′ pass.Hopeless = Steady m m′ × NoModel (Modelled c clauses) (m′ .marks)
+
+  -- an atom was chosen, and nothing clashes; or no model agrees with the branch
+  abbrev pub Tried : Moment → Moment → Bool → Type 0
+  Tried m m′ true = Lighter m m′ × (Clash c (m′ .marks) → ⊥)
+  Tried m m′ false = Lighter m m′ × NoModel (Modelled c clauses) (m′ .marks)
 
   -- a choice was taken back and its opposite told, where nothing clashed before; or there was none
   abbrev pub Flipped : Moment → Moment → Option SignedAtom → Type 0

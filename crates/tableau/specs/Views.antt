@@ -18,7 +18,7 @@ use Rattle.tableau.specs.declared.types.Outcome.{Outcome}
 use Rattle.tableau.specs.Signs.{Modelled}
 use Rattle.tableau.specs.Branch.{Moment}
 use Rattle.tableau.specs.Scans.{NoModel, Entails}
-use Rattle.tableau.specs.Turns.{Sound-state, Ready, Steady, Gone, Passed, Flipped, Turned, Fits-after, Decided, weight-at}
+use Rattle.tableau.specs.Turns.{Sound-state, Ready, Passed, Tried, Flipped, Turned, Fits-after, Decided}
 
 abbrev pub moment : {T : Type 0} → TableGhosts T → T → Stack ℕ → Stack Choice → Moment
 moment t table trail choices = record {
@@ -54,6 +54,9 @@ module _ {B : Type 0} (b : BookGhosts B) (book : B) where
 
   abbrev pub Passes : Moment → Moment → Pass → Type 0
   Passes m m′ r = Passed (b .counts book) (b .clauses book) m m′ r
+
+  abbrev pub Tries : Moment → Moment → Bool → Type 0
+  Tries m m′ r = Tried (b .counts book) (b .clauses book) m m′ r
 
   abbrev pub Flips : Moment → Moment → Option SignedAtom → Type 0
   Flips m m′ r = Flipped (b .counts book) (b .clauses book) m m′ r

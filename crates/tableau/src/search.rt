@@ -1,20 +1,40 @@
 // The search: turn after turn, until every instance is fulfilled or no choice is left.
 ghost use mathlib.Core.Path.{_≡_};
 ghost use mathlib.Core.Bool.{true};
-ghost use Rattle.tableau.specs.Views.{moment, Searching, Set, Fits, Hopeless, Turns, Fits-when, Decides};
+ghost use Prim.Native.Nat.{_<_};
+ghost use Rattle.syntax.specs.Numbers.{atoms};
+ghost use Rattle.tableau.specs.Signs.{OpenIn};
+ghost use Rattle.tableau.specs.Views.{moment, Searching, Set, Fits, Hopeless, Tries, Turns, Fits-when, Decides};
+use crate::clash::refresh;
 use crate::clash::renew;
+use crate::moves::choose;
 use crate::moves::flip;
 use crate::survey::survey;
-use crate::sweep::branch;
 use crate::sweep::sweep;
 use crate::types::Outcome;
 use crate::types::Pass;
+use crate::types::SignedAtom;
 use crate::types::Survey;
 use books::book::Book;
 use classes::table::ClassTable;
 use tables::stack::Choice;
 use tables::stack::Stack;
 use tables::table::BranchTable;
+
+// Chooses a signed atom: whether there is hope.
+fn branch<B: Book, T: BranchTable>(book: &B, table: &mut T, trail: &mut Stack<'_, u16>, choices: &mut Stack<'_, Choice>, classes: &mut ClassTable, l: SignedAtom) -> bool
+    requires ready { ⌜ Set B·Book (now book) (moment T·BranchTable (now table) (now trail) (now choices)) (now classes) ⌝ }
+    requires below { ⌜ l .atom < atoms (B·Book .counts (now book)) ⌝ }
+    requires lies { ⌜ OpenIn (T·BranchTable .marks (now table)) l ⌝ }
+    ensures tried { λ r. ⌜ Tries B·Book (now (book .entry)) (moment T·BranchTable (now (table .entry)) (now (trail .entry)) (now (choices .entry))) (moment T·BranchTable (now (table .exit)) (now (trail .exit)) (now (choices .exit))) r ⌝ }
+    ensures fits { λ _. ⌜ Fits B·Book (now (book .entry)) (moment T·BranchTable (now (table .exit)) (now (trail .exit)) (now (choices .exit))) (now (classes .exit)) ⌝ }
+{
+    choose(table, trail, choices, l);
+    if refresh(book, table, classes, l) {
+        return false;
+    }
+    true
+}
 
 // Takes choices back until one's opposite does not clash.
 fn backtrack<B: Book, T: BranchTable>(book: &B, table: &mut T, trail: &mut Stack<'_, u16>, choices: &mut Stack<'_, Choice>, classes: &mut ClassTable) -> Outcome
@@ -41,10 +61,10 @@ fn decide_on<B: Book, T: BranchTable>(book: &B, table: &mut T, trail: &mut Stack
         Survey::Fulfilled => Outcome::Done,
         Survey::Broken => backtrack(book, table, trail, choices, classes),
         Survey::Split(l) => {
-            match branch(book, table, trail, choices, classes, l) {
-                Pass::Moved => Outcome::Moved,
-                Pass::Rest => Outcome::Moved,
-                Pass::Hopeless => backtrack(book, table, trail, choices, classes),
+            if branch(book, table, trail, choices, classes, l) {
+                Outcome::Moved
+            } else {
+                backtrack(book, table, trail, choices, classes)
             }
         }
     }

@@ -8,7 +8,6 @@ ghost use Rattle.tableau.specs.Instances.{Below};
 ghost use Rattle.tableau.specs.Turns.{pass-of as pass-by};
 ghost use Rattle.tableau.specs.Views.{moment, Set, Fits, Follows, Passes};
 use crate::clash::refresh;
-use crate::moves::choose;
 use crate::moves::put;
 use crate::ranges::nth_names;
 use crate::ranges::ranges;
@@ -34,21 +33,6 @@ fn enforce<B: Book, T: BranchTable>(book: &B, table: &mut T, trail: &mut Stack<'
     ensures fits { λ _. ⌜ Fits B·Book (now (book .entry)) (moment T·BranchTable (now (table .exit)) (now (trail .exit)) (now (choices .entry))) (now (classes .exit)) ⌝ }
 {
     put(table, trail, l);
-    if refresh(book, table, classes, l) {
-        return Pass::Hopeless;
-    }
-    Pass::Moved
-}
-
-// Chooses a signed atom.
-pub(crate) fn branch<B: Book, T: BranchTable>(book: &B, table: &mut T, trail: &mut Stack<'_, u16>, choices: &mut Stack<'_, Choice>, classes: &mut ClassTable, l: SignedAtom) -> Pass
-    requires ready { ⌜ Set B·Book (now book) (moment T·BranchTable (now table) (now trail) (now choices)) (now classes) ⌝ }
-    requires below { ⌜ l .atom < atoms (B·Book .counts (now book)) ⌝ }
-    requires lies { ⌜ OpenIn (T·BranchTable .marks (now table)) l ⌝ }
-    ensures passed { λ r. ⌜ Passes B·Book (now (book .entry)) (moment T·BranchTable (now (table .entry)) (now (trail .entry)) (now (choices .entry))) (moment T·BranchTable (now (table .exit)) (now (trail .exit)) (now (choices .exit))) r ⌝ }
-    ensures fits { λ _. ⌜ Fits B·Book (now (book .entry)) (moment T·BranchTable (now (table .exit)) (now (trail .exit)) (now (choices .exit))) (now (classes .exit)) ⌝ }
-{
-    choose(table, trail, choices, l);
     if refresh(book, table, classes, l) {
         return Pass::Hopeless;
     }

@@ -5,9 +5,6 @@ use Rattle.semantics.specs.Branch.{Clash, ClassTable}
 use Rattle.classes.specs.Leaders.{leader-of}
 use Rattle.tableau.proofs.clash.renew.Needs as need
 
-pub clashes-requires : need.clashes-requires
-clashes-requires g c κs = ?
-
 pub returns : need.returns
 returns g c =
     let ms = g .T·BranchTable .marks (c .args .table .now) in

@@ -48,7 +48,6 @@ returns-in-None g c =
     let off = all-off (c .pre .state) (t .marks (c .untell-to-in-None .last .table)) (e .marks) in
     record {
       frame-is = same-frame (e .loan) (e .room) (off .1) (e .slots) (e .lent) (c .in-None .ensures tt .slots) (c .in-None .ensures tt .loan);
-      reach-is = off .1;
       none = failed (c .pre .state) (popped .0) (c .pre .hopeless);
       clear = off .0;
     }

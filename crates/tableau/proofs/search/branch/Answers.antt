@@ -4,8 +4,8 @@ use native.Mathlib.Omega.{arith}
 use Rattle.classes.specs.Leaders.{leader-of}
 use Rattle.tableau.specs.Views.{moment}
 use Rattle.tableau.proofs.States.{puttable, choice-slot, height-fits, put-stands, put-length, reaches, chosen-step, chosen-lighter}
-use Rattle.tableau.proofs.Going.{fits-before, calm-before, clash-hopeless, lighter-steady}
-use Rattle.tableau.proofs.sweep.branch.Needs as need
+use Rattle.tableau.proofs.Going.{fits-before, calm-before, clash-hopeless}
+use Rattle.tableau.proofs.search.branch.Needs as need
 
 pub choose-requires : need.choose-requires
 choose-requires g c κs =
@@ -44,8 +44,8 @@ returns-then-refresh g c =
     let p = c .choose .ensures in
     let e = c .if-refresh .ensures tt in
     record {
-      passed = (
-        lighter-steady (record { frame-is = p .frame-is; state = chosen-step st l (c .pre .below) (c .pre .lies) m p (c .pre .ready .calm); falls = chosen-lighter st l (c .pre .below) (c .pre .lies) m p }),
+      tried = (
+        record { frame-is = p .frame-is; state = chosen-step st l (c .pre .below) (c .pre .lies) m p (c .pre .ready .calm); falls = chosen-lighter st l (c .pre .below) (c .pre .lies) m p },
         clash-hopeless (b .counts book) (b .clauses book) (m .marks) (e .clash .0 refl),
       );
       fits = e .fits;
@@ -59,7 +59,7 @@ returns g c =
     let p = c .choose .ensures in
     let e = c .if-refresh .ensures tt in
     record {
-      passed = (
+      tried = (
         record { frame-is = p .frame-is; state = chosen-step st l (c .pre .below) (c .pre .lies) m p (c .pre .ready .calm); falls = chosen-lighter st l (c .pre .below) (c .pre .lies) m p },
         λ k. false≢true (e .clash .1 k),
       );
