@@ -32,8 +32,14 @@ module _ (c : Counts) (marks : Branch) (leader : ℕ → ℕ) (g : Ground) (s r 
   rel-decides q a b e d =
       subst At (sym e)
       (λ lawful. decides-like r
-      (λ t. (lawful .0, (t .0, record { first = lawful .1 .0; second = t .1; one = sym (t .2) },
-      (t .3 .0, record { first = lawful .1 .1; second = t .3 .1; one = sym (t .3 .2) }, t .3 .3 ∙ is))))
+      (λ t. (
+        lawful .0,
+        (
+          t .0,
+          record { first = lawful .1 .0; second = t .1; one = sym (t .2) },
+          (t .3 .0, record { first = lawful .1 .1; second = t .3 .1; one = sym (t .3 .2) }, t .3 .3 ∙ is),
+        ),
+      ))
       (λ t. (t .1 .0, t .1 .1 .second, sym (t .1 .1 .one), (t .1 .2 .0, t .1 .2 .1 .second, sym (t .1 .2 .1 .one), t .1 .2 .2 ∙ sym is)))
       d)
       l

@@ -5,7 +5,7 @@ use mathlib.Core.List.{List, [], _∷_}
 use Prim.Native.Nat.{ℕ, zero, suc, _<_, _≤_}
 use native.Mathlib.Omega.{arith}
 use lib.Dec.{eqb}
-use lib.ListN.{length, getD}
+use lib.ListN.{length, getD, take, drop}
 use Rattle.std.specs.declared.option.Option.{Option}
 use Rattle.std.specs.declared.option.Option.the-variants.{Some, None}
 use Rattle.std.specs.declared.result.Result.{Result}
@@ -21,7 +21,9 @@ use Rattle.syntax.specs.declared.counts.Counts.{Counts}
 use Rattle.syntax.specs.Numbers.{atoms, number-of}
 use Rattle.syntax.specs.Refusals.{first-of}
 use Rattle.semantics.specs.Meaning.{Clause}
-use Rattle.semantics.specs.Branch.{Branch, mark-at, Clash, same-no, prop-both, rel-both, ClassTable}
+use Rattle.semantics.specs.Bytes.{Bytes-of}
+use Rattle.semantics.specs.Branch.{Clash, same-no, prop-both, rel-both, ClassTable, own}
+use Rattle.classes.specs.Models.{Written, Its-bytes}
 use Rattle.semantics.specs.Judgements.{Contradictory}
 use Rattle.semantics.proofs.Reading.{some-bytes, byte-value}
 use Rattle.tables.specs.Marks.{cleared}
@@ -101,3 +103,27 @@ one-verdict c clauses m m′ m″ (Ok Consistent) (Ok Consistent) p q = refl
 one-verdict c clauses m m′ m″ (Ok Contrary) (Ok Contrary) p q = refl
 one-verdict c clauses m m′ m″ (Ok Consistent) (Ok Contrary) p q = absurd (q .2 .none (_, p .2 .model))
 one-verdict c clauses m m′ m″ (Ok Contrary) (Ok Consistent) p q = absurd (p .2 .none (_, q .2 .model))
+
+-- no cause of refusal, at what was read of the book and the table
+pub no-cause :
+    (n k : Counts) (reach reach′ room room′ trail choices model : ℕ) → None ≡ size-refusal n reach room trail choices model →
+    n ≡ k → reach ≡ reach′ → room ≡ room′ → size-refusal k reach′ room′ trail choices model ≡ None
+no-cause n k reach reach′ room room′ trail choices model e en er eo =
+    sym (e ∙ ap (λ x. size-refusal x reach room trail choices model) en ∙ ap (λ x. size-refusal k x room trail choices model) er ∙ ap (λ x. size-refusal k reach′ x trail choices model) eo)
+
+-- the own model was written
+pub record Wrote (c : Counts) (ms : List Mark) (leader : ℕ → ℕ) (before after : List ℕ) : Type 0 where
+  pub first : Bytes-of c (own c ms leader) (take (atoms c) after)
+  pub rest : drop (atoms c) after ≡ drop (atoms c) before
+  pub long : length after ≡ length before
+
+pub wrote :
+    (c n : Counts) (ms : List Mark) (leader : ℕ → ℕ) (before after : List ℕ) (r : Result Unit Refusal) → n ≡ c → atoms c ≤ length before →
+    Written n (own n ms leader) before after r → (ClassTable n ms leader → Its-bytes n (own n ms leader) after r) → ClassTable c ms leader → Wrote c ms leader before after
+wrote c n ms leader before after r e long w its fits =
+    let P : Counts → Type 0 = λ k. Written k (own k ms leader) before after r × (ClassTable k ms leader → Its-bytes k (own k ms leader) after r) in
+    at r (subst P e (w, its))
+  where
+    at : (r : Result Unit Refusal) → Written c (own c ms leader) before after r × (ClassTable c ms leader → Its-bytes c (own c ms leader) after r) → Wrote c ms leader before after
+    at (Ok u) (w, its) = record { first = its fits; rest = w .1 .rest; long = w .1 .long }
+    at (Err e) (w, its) = absurd (omega (arith, w .0))

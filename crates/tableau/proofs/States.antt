@@ -45,7 +45,7 @@ abbrev frame-of : Loan → ℕ → ℕ → ℕ → ℕ → ℕ → ℕ → Frame
 frame-of l r n ts tl cs cl = record { loan = l; room = r; reach = n; trail-slots = ts; trail-loan = tl; choice-slots = cs; choice-loan = cl }
 
 pub same-frame : {l l′ : Loan} {r r′ n n′ ts ts′ tl tl′ cs cs′ cl cl′ : ℕ} → l′ ≡ l → r′ ≡ r → n′ ≡ n → ts′ ≡ ts → tl′ ≡ tl → cs′ ≡ cs → cl′ ≡ cl
-  → frame-of l′ r′ n′ ts′ tl′ cs′ cl′ ≡ frame-of l r n ts tl cs cl
+    → frame-of l′ r′ n′ ts′ tl′ cs′ cl′ ≡ frame-of l r n ts tl cs cl
 same-frame a b c d e g h = cc
 
 -- the opposite of a choice
@@ -196,8 +196,8 @@ module _ {M : Models} {K : Clashes} {atoms : ℕ} {m : Moment} (st : State M K a
 
 -- and its opposite is told: the weight is below that before
 pub back-lighter : {M : Models} {K : Clashes} {atoms : ℕ} {c : Choice} {m m′ : Moment} → Back M K atoms c m → Put (flipped c) m m′
-  → (old : List ℕ) (choices : List Choice) → choices ≡ m .choices ++ (c ∷ [])
-  → weight atoms (m′ .trail) (m′ .choices) < weight atoms old choices
+    → (old : List ℕ) (choices : List Choice) → choices ≡ m .choices ++ (c ∷ [])
+    → weight atoms (m′ .trail) (m′ .choices) < weight atoms old choices
 back-lighter {atoms = atoms} {c = c} {m = m} {m′ = m′} b p old choices is =
     let n : length (m′ .trail) ≡ c .height + 1 = ap length (p .trail-is) ∙ length-push (m .trail) (c .atom) ∙ ap (λ k. k + 1) (b .height) in
     let w : weight atoms old choices ≡ weight atoms old (m .choices ++ (c ∷ [])) = ap (weight atoms old) is in

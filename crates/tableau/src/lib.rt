@@ -1,7 +1,6 @@
 // Judging: whether some interpretation satisfies every clause of a book, and if so one that does.
-pub mod judge;
-pub mod verdict;
 pub(crate) mod clash;
+pub mod judge;
 pub(crate) mod moves;
 pub(crate) mod ranges;
 pub(crate) mod scan;
@@ -9,3 +8,4 @@ pub(crate) mod search;
 pub(crate) mod survey;
 pub(crate) mod sweep;
 pub(crate) mod types;
+pub mod verdict;

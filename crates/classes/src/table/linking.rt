@@ -93,6 +93,10 @@ impl ClassTable {
     pub fn leader(&self, name: u8) -> u8
         ensures { λ r. ⌜ r ≡ leader-of (now (self .entry)) name ⌝ }
     {
-        if name < 32 { self.leaders[name as usize] } else { 0 }
+        if name < 32 {
+            self.leaders[name as usize]
+        } else {
+            0
+        }
     }
 }

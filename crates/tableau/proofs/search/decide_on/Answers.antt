@@ -20,9 +20,9 @@ returns-else-branch g c =
     let e = c .backtrack-else-branch .ensures in
     record {
       turned =
-        turned-on (b .counts book) (b .clauses book) (moment t (c .args .table .now) (c .args .trail .now) (c .args .choices .now))
-        (moment t (c .branch-book .last .table) (c .branch-book .last .trail) (c .branch-book .last .choices))
-        (moment t (c .backtrack-else-branch .last .table) (c .backtrack-else-branch .last .trail) (c .backtrack-else-branch .last .choices)) (c .backtrack-else-branch .result)
-        (lighter-steady (c .if-branch .ensures tt .tried .0)) (e .turned);
+          turned-on (b .counts book) (b .clauses book) (moment t (c .args .table .now) (c .args .trail .now) (c .args .choices .now))
+          (moment t (c .branch-book .last .table) (c .branch-book .last .trail) (c .branch-book .last .choices))
+          (moment t (c .backtrack-else-branch .last .table) (c .backtrack-else-branch .last .trail) (c .backtrack-else-branch .last .choices)) (c .backtrack-else-branch .result)
+          (lighter-steady (c .if-branch .ensures tt .tried .0)) (e .turned);
       fits = e .fits;
     }
