@@ -1,0 +1,31 @@
+use Rattle.tableau.specs.Views.{moment}
+use Rattle.tableau.proofs.Going.{lighter-steady, turned-on}
+use Rattle.tableau.proofs.search.turn.Needs as need
+
+pub returns-in-Rest : need.returns-in-Rest
+returns-in-Rest g c =
+    let t = g .T·BranchTable in
+    let b = g .B·Book in
+    let book = c .args .book .now in
+    let e = c .decide-on .ensures in
+    record {
+      turned =
+          turned-on (b .counts book) (b .clauses book) (moment t (c .args .table .now) (c .args .trail .now) (c .args .choices .now))
+          (moment t (c .sweep .last .table) (c .sweep .last .trail) (c .args .choices .now)) (moment t (c .decide-on .last .table) (c .decide-on .last .trail) (c .decide-on .last .choices)) (c .decide-on .result)
+          (c .in-Rest .ensures tt .passed .0) (e .turned);
+      fits = e .fits;
+    }
+
+pub returns-in-Hopeless : need.returns-in-Hopeless
+returns-in-Hopeless g c =
+    let t = g .T·BranchTable in
+    let b = g .B·Book in
+    let book = c .args .book .now in
+    let e = c .backtrack .ensures in
+    record {
+      turned =
+          turned-on (b .counts book) (b .clauses book) (moment t (c .args .table .now) (c .args .trail .now) (c .args .choices .now))
+          (moment t (c .sweep .last .table) (c .sweep .last .trail) (c .args .choices .now)) (moment t (c .backtrack .last .table) (c .backtrack .last .trail) (c .backtrack .last .choices)) (c .backtrack .result)
+          (c .in-Hopeless .ensures tt .passed .0) (e .turned);
+      fits = e .fits;
+    }

@@ -1,0 +1,59 @@
+use mathlib.Core.Path.{_≡_, refl, sym, ap, subst, _∙_}
+use mathlib.Core.Bool.{Bool, true, false}
+use native.Mathlib.Omega.{arith}
+use Rattle.tableau.specs.declared.types.Pass.{Pass}
+use Rattle.tableau.specs.Turns.{Gone, Passed, Ready}
+use Rattle.tableau.specs.Views.{moment}
+use Rattle.tableau.proofs.Going.{steady-here, steady-on, lighter-on, gone-steady, gone-rest, gone-pass}
+use Rattle.tableau.proofs.sweep.sweep.Needs as need
+use Rattle.tableau.proofs.sweep.sweep.Needs.{in-Moved, in-Rest}
+
+pub loop-i-holds : need.loop-i-holds
+loop-i-holds g c = (steady-here (c .pre .state), c .pre)
+
+pub sweep-clause-requires : need.sweep-clause-requires
+sweep-clause-requires g c κs = record { ready = c .loop-i .inv .1; inside = omega (arith, c .loop-i-test .taken, c .len-i-end .ensures) }
+
+pub returns-in-Hopeless : need.returns-in-Hopeless
+returns-in-Hopeless g c =
+    let t = g .T·BranchTable in
+    let b = g .B·Book in
+    let book = c .args .book .now in
+    let m = moment t (c .args .table .now) (c .args .trail .now) (c .args .choices .now) in
+    let m′ = moment t (c .loop-i .table) (c .loop-i .trail) (c .args .choices .now) in
+    let e = c .in-Hopeless .ensures tt in
+    record {
+      passed = (steady-on (gone-steady (b .counts book) (b .clauses book) m m′ (c .loop-i .moved) (c .loop-i .inv .0)) (e .passed .0), e .passed .1);
+      fits = e .fits;
+    }
+
+pub loop-i-again : need.loop-i-again
+loop-i-again g c =
+    let t = g .T·BranchTable in
+    let b = g .B·Book in
+    let book = c .args .book .now in
+    let m = moment t (c .args .table .now) (c .args .trail .now) (c .args .choices .now) in
+    let m′ = moment t (c .loop-i .table) (c .loop-i .trail) (c .args .choices .now) in
+    let m″ = moment t (c .sweep-clause .last .table) (c .sweep-clause .last .trail) (c .args .choices .now) in
+    let P : Bool → Type 0 = λ v. Gone (b .counts book) (b .clauses book) m m″ v in
+    elim (c .match-sweep-clause .came) [
+      | in-Moved w ↦
+          let e = w .in-Moved .ensures tt in
+          (subst P (sym (w .moved-is)) (lighter-on (gone-steady (b .counts book) (b .clauses book) m m′ (c .loop-i .moved) (c .loop-i .inv .0)) (e .passed .0)), record { state = e .passed .0 .state; calm = e .passed .1; fits = e .fits })
+      | in-Rest w ↦
+          let e = w .in-Rest .ensures tt in
+          (subst P (sym (w .moved-is)) (gone-rest (b .counts book) (b .clauses book) m m′ m″ (c .loop-i .moved) (c .loop-i .inv .0) (e .passed .0)), record { state = e .passed .0 .state; calm = e .passed .1; fits = e .fits })
+    ]
+
+pub returns : need.returns
+returns g c =
+    let t = g .T·BranchTable in
+    let b = g .B·Book in
+    let book = c .args .book .now in
+    let m = moment t (c .args .table .now) (c .args .trail .now) (c .args .choices .now) in
+    let m′ = moment t (c .loop-i .table) (c .loop-i .trail) (c .args .choices .now) in
+    let P : Pass → Type 0 = λ p. Passed (b .counts book) (b .clauses book) m m′ p in
+    record {
+      passed = subst P (sym (c .pass-of .ensures)) (gone-pass (b .counts book) (b .clauses book) m m′ (c .loop-i .moved) (c .loop-i .inv .0) (c .loop-i .inv .1 .calm));
+      fits = c .loop-i .inv .1 .fits;
+    }

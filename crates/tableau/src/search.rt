@@ -1,0 +1,130 @@
+// The search: turn after turn, until every instance is fulfilled or no choice is left.
+ghost use mathlib.Core.Path.{_≡_};
+ghost use mathlib.Core.Bool.{true};
+ghost use Prim.Native.Nat.{_<_};
+ghost use Rattle.syntax.specs.Numbers.{atoms};
+ghost use Rattle.tableau.specs.Signs.{OpenIn};
+ghost use Rattle.tableau.specs.Views.{moment, Searching, Set, Fits, Hopeless, Tries, Turns, Fits-when, Decides};
+use crate::clash::refresh;
+use crate::clash::renew;
+use crate::moves::choose;
+use crate::moves::flip;
+use crate::survey::survey;
+use crate::sweep::sweep;
+use crate::types::Outcome;
+use crate::types::Pass;
+use crate::types::SignedAtom;
+use crate::types::Survey;
+use books::book::Book;
+use classes::table::ClassTable;
+use tables::stack::Choice;
+use tables::stack::Stack;
+use tables::table::BranchTable;
+
+// Chooses a signed atom: whether there is hope.
+fn branch<B: Book, T: BranchTable>(
+    book: &B,
+    table: &mut T,
+    trail: &mut Stack<'_, u16>,
+    choices: &mut Stack<'_, Choice>,
+    classes: &mut ClassTable,
+    l: SignedAtom,
+) -> bool
+    requires ready { ⌜ Set B·Book (now book) (moment T·BranchTable (now table) (now trail) (now choices)) (now classes) ⌝ }
+    requires below { ⌜ l .atom < atoms (B·Book .counts (now book)) ⌝ }
+    requires lies { ⌜ OpenIn (T·BranchTable .marks (now table)) l ⌝ }
+    ensures tried { λ r. ⌜ Tries B·Book (now (book .entry)) (moment T·BranchTable (now (table .entry)) (now (trail .entry)) (now (choices .entry))) (moment T·BranchTable (now (table .exit)) (now (trail .exit)) (now (choices .exit))) r ⌝ }
+    ensures fits { λ _. ⌜ Fits B·Book (now (book .entry)) (moment T·BranchTable (now (table .exit)) (now (trail .exit)) (now (choices .exit))) (now (classes .exit)) ⌝ }
+{
+    choose(table, trail, choices, l);
+    if refresh(book, table, classes, l) {
+        return false;
+    }
+    true
+}
+
+// Takes choices back until one's opposite does not clash.
+fn backtrack<B: Book, T: BranchTable>(
+    book: &B,
+    table: &mut T,
+    trail: &mut Stack<'_, u16>,
+    choices: &mut Stack<'_, Choice>,
+    classes: &mut ClassTable,
+) -> Outcome
+    requires state { ⌜ Searching B·Book (now book) (moment T·BranchTable (now table) (now trail) (now choices)) ⌝ }
+    requires hopeless { ⌜ Hopeless B·Book (now book) (moment T·BranchTable (now table) (now trail) (now choices)) ⌝ }
+    ensures turned { λ r. ⌜ Turns B·Book (now (book .entry)) (moment T·BranchTable (now (table .entry)) (now (trail .entry)) (now (choices .entry))) (moment T·BranchTable (now (table .exit)) (now (trail .exit)) (now (choices .exit))) r ⌝ }
+    ensures fits { λ r. ⌜ Fits-when B·Book (now (book .entry)) (moment T·BranchTable (now (table .exit)) (now (trail .exit)) (now (choices .exit))) (now (classes .exit)) r ⌝ }
+{
+    while let Some(_l) = flip(book, table, trail, choices) {
+        if !renew(book, table, classes) {
+            return Outcome::Moved;
+        }
+    }
+    Outcome::Failed
+}
+
+// Makes a choice where the sweep came to rest, unless every instance is fulfilled.
+fn decide_on<B: Book, T: BranchTable>(
+    book: &B,
+    table: &mut T,
+    trail: &mut Stack<'_, u16>,
+    choices: &mut Stack<'_, Choice>,
+    classes: &mut ClassTable,
+) -> Outcome
+    requires { ⌜ Set B·Book (now book) (moment T·BranchTable (now table) (now trail) (now choices)) (now classes) ⌝ }
+    ensures turned { λ r. ⌜ Turns B·Book (now (book .entry)) (moment T·BranchTable (now (table .entry)) (now (trail .entry)) (now (choices .entry))) (moment T·BranchTable (now (table .exit)) (now (trail .exit)) (now (choices .exit))) r ⌝ }
+    ensures fits { λ r. ⌜ Fits-when B·Book (now (book .entry)) (moment T·BranchTable (now (table .exit)) (now (trail .exit)) (now (choices .exit))) (now (classes .exit)) r ⌝ }
+{
+    match survey(book, table) {
+        Survey::Fulfilled => Outcome::Done,
+        Survey::Broken => backtrack(book, table, trail, choices, classes),
+        Survey::Split(l) => {
+            if branch(book, table, trail, choices, classes, l) {
+                Outcome::Moved
+            } else {
+                backtrack(book, table, trail, choices, classes)
+            }
+        }
+    }
+}
+
+// One turn: tells what the instances force, or takes a choice back, or makes one.
+fn turn<B: Book, T: BranchTable>(
+    book: &B,
+    table: &mut T,
+    trail: &mut Stack<'_, u16>,
+    choices: &mut Stack<'_, Choice>,
+    classes: &mut ClassTable,
+) -> Outcome
+    requires { ⌜ Set B·Book (now book) (moment T·BranchTable (now table) (now trail) (now choices)) (now classes) ⌝ }
+    ensures turned { λ r. ⌜ Turns B·Book (now (book .entry)) (moment T·BranchTable (now (table .entry)) (now (trail .entry)) (now (choices .entry))) (moment T·BranchTable (now (table .exit)) (now (trail .exit)) (now (choices .exit))) r ⌝ }
+    ensures fits { λ r. ⌜ Fits-when B·Book (now (book .entry)) (moment T·BranchTable (now (table .exit)) (now (trail .exit)) (now (choices .exit))) (now (classes .exit)) r ⌝ }
+{
+    match sweep(book, table, trail, choices, classes) {
+        Pass::Moved => Outcome::Moved,
+        Pass::Rest => decide_on(book, table, trail, choices, classes),
+        Pass::Hopeless => backtrack(book, table, trail, choices, classes),
+    }
+}
+
+// Whether there is a model.
+pub(crate) fn decide<B: Book, T: BranchTable>(
+    book: &B,
+    table: &mut T,
+    trail: &mut Stack<'_, u16>,
+    choices: &mut Stack<'_, Choice>,
+    classes: &mut ClassTable,
+) -> bool
+    requires { ⌜ Set B·Book (now book) (moment T·BranchTable (now table) (now trail) (now choices)) (now classes) ⌝ }
+    ensures decided { λ r. ⌜ Decides B·Book (now (book .entry)) (moment T·BranchTable (now (table .entry)) (now (trail .entry)) (now (choices .entry))) (moment T·BranchTable (now (table .exit)) (now (trail .exit)) (now (choices .exit))) r ⌝ }
+    ensures fits { λ r. ⌜ (r ≡ true → Fits B·Book (now (book .entry)) (moment T·BranchTable (now (table .exit)) (now (trail .exit)) (now (choices .exit))) (now (classes .exit))) ⌝ }
+{
+    loop {
+        match turn(book, table, trail, choices, classes) {
+            Outcome::Done => return true,
+            Outcome::Failed => return false,
+            Outcome::Moved => {}
+        }
+    }
+}

@@ -1,0 +1,47 @@
+// Looks for an instance without a standing literal.
+ghost use mathlib.Core.Path.{_≡_};
+ghost use Prim.Native.Nat.{_<_, _≤_};
+ghost use lib.ListN.{length};
+ghost use Rattle.syntax.specs.Numbers.{atoms};
+ghost use Rattle.tableau.specs.Scans.{Surveyed, Clause-surveyed};
+use crate::ranges::nth_names;
+use crate::ranges::ranges;
+use crate::ranges::size;
+use crate::scan::evaluate;
+use crate::types::Status;
+use crate::types::Survey;
+use books::book::Book;
+use tables::table::BranchTable;
+
+// Among the instances of clause i.
+fn survey_clause<B: Book, T: BranchTable>(book: &B, table: &T, i: usize) -> Survey
+    requires inside { ⌜ i < length (B·Book .clauses (now book)) ⌝ }
+    requires reaches { ⌜ atoms (B·Book .counts (now book)) ≤ length (T·BranchTable .marks (now table)) ⌝ }
+    ensures { λ r. ⌜ Clause-surveyed (B·Book .counts (now (book .entry))) (B·Book .clauses (now (book .entry))) (T·BranchTable .marks (now (table .entry))) i r ⌝ }
+{
+    let ranges = ranges(book, i);
+    for k in 0..size(ranges) {
+        match evaluate(book, table, i, nth_names(ranges, k)) {
+            Status::Fulfilled => {}
+            Status::Broken => return Survey::Broken,
+            Status::Forced(l) => return Survey::Split(l),
+            Status::Loose(l) => return Survey::Split(l),
+        }
+    }
+    Survey::Fulfilled
+}
+
+// Among all instances.
+pub(crate) fn survey<B: Book, T: BranchTable>(book: &B, table: &T) -> Survey
+    requires { ⌜ atoms (B·Book .counts (now book)) ≤ length (T·BranchTable .marks (now table)) ⌝ }
+    ensures { λ r. ⌜ Surveyed (B·Book .counts (now (book .entry))) (B·Book .clauses (now (book .entry))) (T·BranchTable .marks (now (table .entry))) r ⌝ }
+{
+    for i in 0..book.len() {
+        match survey_clause(book, table, i) {
+            Survey::Fulfilled => {}
+            Survey::Broken => return Survey::Broken,
+            Survey::Split(l) => return Survey::Split(l),
+        }
+    }
+    Survey::Fulfilled
+}
