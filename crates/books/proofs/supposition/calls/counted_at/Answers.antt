@@ -29,19 +29,11 @@ loop-x-again c =
     let t = ground-is (c .args .counts) (getD (c .args .literals .now) (c .loop-x .x-index) blank) _ (c .is-ground-literal .ensures) in
     elim (c .if-is-ground-literal .came) [
       | then-is-ground-literal·else-left-eq0 w ↦
-<<<<<<< HEAD
           ap (nth (kept-by p (drop (i + 1) xs))) (w .left-is) ∙ sym (nth-next _ (kept-by p (drop (i + 1) xs)) (c .loop-x .left) (omega (arith, w .if-left-eq0 .left))) ∙
           ap (λ zs. nth zs (c .loop-x .left)) (sym (pass-yes p xs i blank h (t ∙ w .if-is-ground-literal .taken))) ∙ c .loop-x .inv
       | else-is-ground-literal w ↦
           ap (nth (kept-by p (drop (i + 1) xs))) (w .left-is) ∙
           ap (λ zs. nth zs (c .loop-x .left)) (sym (pass-no p xs i blank h (t ∙ w .if-is-ground-literal .left))) ∙ c .loop-x .inv
-=======
-          ap (nth (kept-by p (drop (i + 1) xs))) (w .left-is) ∙ sym (nth-next _ (kept-by p (drop (i + 1) xs)) (c .loop-l .left) (omega (arith, w .if-left-eq0 .left))) ∙
-          ap (λ zs. nth zs (c .loop-l .left)) (sym (pass-yes p xs i blank h (t ∙ w .if-is-ground-literal .taken))) ∙ c .loop-l .inv
-      | else-is-ground-literal w ↦
-          ap (nth (kept-by p (drop (i + 1) xs))) (w .left-is) ∙
-          ap (λ zs. nth zs (c .loop-l .left)) (sym (pass-no p xs i blank h (t ∙ w .if-is-ground-literal .left))) ∙ c .loop-l .inv
->>>>>>> 5a2846edbc94f2213cbb5ff9b8c1f2f2e3cc64b2
     ]
 
 pub returns : need.returns
