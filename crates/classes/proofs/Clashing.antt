@@ -20,7 +20,7 @@ use Rattle.semantics.proofs.Instances.{together}
 use Rattle.semantics.proofs.Marks.{mark-told, mark-kept, signed-same}
 use Rattle.semantics.proofs.Own.{same-leader, linked-by, table-from}
 use Rattle.semantics.proofs.Steps.{linked-below, linked-more}
-use Rattle.classes.specs.Leaders.{Joins}
+use Rattle.classes.specs.Leaders.{JoinsNone}
 use Rattle.classes.specs.Clashes.{Fellow, ClashBy, ClashAt, same-no as same-no′, prop-both as prop-both′, rel-both as rel-both′}
 use Rattle.classes.specs.Theorems.{Clash-by, Same-but, Clash-at, Clash-told, Classes-told, Classes-same}
 

@@ -10,7 +10,7 @@ use Rattle.syntax.specs.declared.types.Mark.the-variants.{Open, Yes}
 use Rattle.syntax.specs.declared.counts.Counts.{Counts}
 use Rattle.syntax.specs.Numbers.{number-of, LawfulGround}
 use Rattle.semantics.specs.Branch.{Branch, mark-at, signed, tell, Clash, ClassTable as Classes}
-use Rattle.classes.specs.Leaders.{Joins}
+use Rattle.classes.specs.Leaders.{JoinsNone}
 use Rattle.classes.specs.Clashes.{ClashBy, ClashAt}
 
 -- with the leaders of the class table, a clash is one read off them
