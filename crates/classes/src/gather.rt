@@ -14,7 +14,7 @@ use syntax::types::MarkPartialEq;
 use tables::table::BranchTable;
 
 // The place for the leaders of two names.
-pub fn slot(classes: &ClassTable, a: u8, b: u8) -> usize
+pub(crate) fn slot(classes: &ClassTable, a: u8, b: u8) -> usize
     requires { ⌜ (a < 32) × (b < 32) ⌝ }
     ensures at { λ r. ⌜ r ≡ slot-of (leader-of (now (classes .entry))) a b ⌝ }
     ensures near { λ r. ⌜ r < 1024 ⌝ }
@@ -56,7 +56,7 @@ fn clear(found: &mut [bool])
 }
 
 // Finds the places of the symbol's atoms that have the mark.
-pub fn gather<T: BranchTable>(
+pub(crate) fn gather<T: BranchTable>(
     counts: Counts,
     table: &T,
     classes: &ClassTable,

@@ -6,7 +6,7 @@ use syntax::types::Ground;
 
 impl Symbol {
     // The atom of the symbol and names; a property takes the first.
-    pub fn atom(self, a: u8, b: u8) -> Ground
+    pub(crate) fn atom(self, a: u8, b: u8) -> Ground
         ensures { λ r. ⌜ r ≡ atom-with self a b ⌝ }
     {
         match self {
@@ -16,7 +16,7 @@ impl Symbol {
     }
 
     // How many second names the symbol takes; a property takes 0 alone.
-    pub fn width(self, counts: Counts) -> u8
+    pub(crate) fn width(self, counts: Counts) -> u8
         ensures { λ r. ⌜ r ≡ width counts self ⌝ }
     {
         match self {
