@@ -1,10 +1,9 @@
 -- What the calls of a block book answer of its clauses.
-use mathlib.Core.Path.{_≡_, refl, sym, ap, _∙_}
-use mathlib.Core.List.{List, [], _∷_, map}
+use mathlib.Core.Path.{_≡_, sym, ap, _∙_}
+use mathlib.Core.List.{List, []}
 use Prim.Native.Nat.{ℕ, _+_, _*_, _≤_, _<_}
 use native.Mathlib.Omega.{arith}
-use lib.ListN.{length, getD, take, drop}
-use Rattle.std.specs.Iters.{counting}
+use lib.ListN.{length, getD, drop}
 use Rattle.std.specs.shelf.Maps.{nth}
 use Rattle.std.specs.declared.option.Option.the-variants.{Some, None}
 use Rattle.std.proofs.shelf.Counted.{length-map-counting, getD-map-counting}
@@ -12,8 +11,6 @@ use Rattle.std.proofs.shelf.Lists.{getD-take, getD-drop, length-take, length-dr
 use Rattle.std.proofs.shelf.Maps.{nth-getD, nth-past}
 use Rattle.syntax.specs.declared.types.Literal.{Literal}
 use Rattle.syntax.specs.declared.counts.Counts.{Counts}
-use Rattle.syntax.specs.Lawful.{LawfulLiteral}
-use Rattle.syntax.specs.Codes.{literal-code}
 use Rattle.books.specs.Lists.{size-at, literal-at}
 use Rattle.books.proofs.Readings.{size-from}
 use Rattle.blocks.specs.Reading.{part, counts-in, number-in, filler, literal-in, size-in, clause-in, clauses-at, clauses-in, place-of}

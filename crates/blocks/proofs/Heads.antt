@@ -1,14 +1,14 @@
 -- What the bytes of a head say.
 use mathlib.Core.Path.{_≡_, refl, sym, ap, ap₂, subst, _∙_}
 use mathlib.Core.List.{List, [], _∷_, _++_}
-use Prim.Native.Nat.{ℕ, zero, suc, _+_, _-_, _*_, _/_, _%_, _≤_, _<_}
+use Prim.Native.Nat.{ℕ, _+_, _-_, _*_, _/_, _%_, _≤_, _<_}
 use native.Mathlib.Bridge.{le-prop}
 use native.Mathlib.Omega.{arith}
 use lib.ListN.{length, getD, take, drop, replicate}
-use Rattle.std.proofs.shelf.Lists.{take-append-drop, length-take-le, length-drop}
+use Rattle.std.proofs.shelf.Lists.{take-append-drop, length-drop}
 use Rattle.syntax.specs.declared.counts.Counts.{Counts}
-use Rattle.syntax.specs.Limits.{Within, Are}
-use Rattle.blocks.specs.Format.{padded, two-bytes, head-contents, front, head-front, blocks-for}
+use Rattle.syntax.specs.Limits.{Are}
+use Rattle.blocks.specs.Format.{padded, head-contents, front, head-front}
 use Rattle.blocks.specs.Layout.{HeadIs, block-at}
 use Rattle.blocks.specs.Parts.{HeadBody}
 use Rattle.blocks.proofs.Written.{padded-from, padded-drop}

@@ -1,13 +1,13 @@
 -- What the tests of a block's parts come to.
-use mathlib.Core.Path.{_≡_, refl, sym, ap, ap₂, subst, _∙_}
+use mathlib.Core.Path.{_≡_, refl, sym, ap, ap₂, _∙_}
 use mathlib.Core.List.{List, [], _∷_, _++_}
 use mathlib.Core.Bool.{false}
-use Prim.Native.Nat.{ℕ, zero, suc, _+_, _-_, _*_, _/_, _%_, _≤_, _<_}
+use Prim.Native.Nat.{ℕ, zero, _+_, _-_, _*_, _/_, _%_, _≤_, _<_}
 use native.Mathlib.Nat.{mul-div-cancel-left}
 use native.Mathlib.Omega.{arith}
 use lib.ListN.{length, getD, take, drop, replicate}
 use Rattle.std.specs.shelf.Lists.{All, joined, sum}
-use Rattle.std.proofs.shelf.Lists.{drop-more, drop-all, take-more, replicate-more, take-rest, take-append-drop, length-take-le, length-drop, length-append, append-assoc}
+use Rattle.std.proofs.shelf.Lists.{drop-more, drop-all, take-more, replicate-more, take-rest, take-append-drop, length-take-le, length-drop}
 use Rattle.syntax.specs.declared.types.Atom.the-variants.{Same}
 use Rattle.syntax.specs.declared.types.Term.the-variants.{Name}
 use Rattle.syntax.specs.declared.types.Literal.{Literal}
@@ -18,7 +18,7 @@ use Rattle.blocks.specs.Format.{padded, two-bytes, clause-bytes, front, clause
 use Rattle.blocks.specs.Reading.{part}
 use Rattle.blocks.specs.Layout.{CheckRight, Clauses}
 use Rattle.blocks.specs.Parts.{Made, MadeOne}
-use Rattle.blocks.proofs.Pieces.{found, lost, joined-length}
+use Rattle.blocks.proofs.Pieces.{joined-length}
 use Rattle.blocks.proofs.Written.{fives, fortytwos, padded-take, padded-drop, padded-from}
 
 -- what stands for a literal past the end of a list

@@ -1,7 +1,7 @@
 -- The format by its places: how long its parts are, and what stands where.
-use mathlib.Core.Path.{_≡_, refl, sym, ap, ap₂, subst, _∙_}
-use mathlib.Core.List.{List, [], _∷_, _++_}
-use Prim.Native.Nat.{ℕ, zero, suc, _+_, _-_, _*_, _/_, _%_, _≤_, _<_, min}
+use mathlib.Core.Path.{_≡_, refl, sym, ap, ap₂, _∙_}
+use mathlib.Core.List.{List, [], _++_}
+use Prim.Native.Nat.{ℕ, zero, suc, _+_, _-_, _*_, _%_, _≤_, _<_, min}
 use native.Mathlib.Omega.{arith}
 use lib.ListN.{length, getD, take, drop, replicate}
 use Rattle.std.specs.Iters.{counting}
@@ -18,7 +18,7 @@ use Rattle.syntax.specs.Codes.{atom-code, literal-code}
 use Rattle.blocks.specs.Format.{padded, two-bytes, clause-bytes, front, head-front, clauses-front, checked, blocks-for, share, block-of, file-of}
 use Rattle.blocks.specs.Reading.{part}
 use Rattle.blocks.specs.Layout.{CheckRight, block-at, due}
-use Rattle.blocks.proofs.Pieces.{piece, joined-length, all-of, part-front}
+use Rattle.blocks.proofs.Pieces.{piece, joined-length, all-of}
 
 -- a literal has five bytes
 atom-length : (a : Atom) → length (atom-code a) ≡ 4

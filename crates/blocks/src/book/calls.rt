@@ -2,7 +2,6 @@
 ghost use mathlib.Core.Path.{_≡_};
 ghost use Prim.Native.Nat.{_<_, _≤_};
 ghost use lib.ListN.{getD};
-ghost use denote.Ref.{now as behind};
 ghost use Rattle.blocks.specs.Reading.{part, counts-in, number-in, size-in, literal-in, place-of};
 ghost use Rattle.blocks.specs.Book.{counts-of, clauses-of, Read, Exact};
 ghost use Rattle.blocks.specs.Stands.{block-lawful, block-few};

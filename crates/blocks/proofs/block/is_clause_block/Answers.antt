@@ -1,7 +1,6 @@
-use mathlib.Core.Path.{_≡_, refl, ap, _∙_}
-use mathlib.Core.Logic.{⊎-elim}
+use mathlib.Core.Path.{ap}
 use native.Mathlib.Omega.{arith}
-use lib.ListN.{length, take, drop, getD}
+use lib.ListN.{length}
 use Rattle.std.proofs.shelf.Tests.{false≢true, both-ways}
 use Rattle.blocks.proofs.Leaves.{clauses-parts, clauses-letters, clauses-used, clauses-unused, clauses-made}
 use Rattle.blocks.proofs.block.is_clause_block.Needs as need

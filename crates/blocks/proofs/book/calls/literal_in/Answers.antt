@@ -1,5 +1,4 @@
 use mathlib.Core.Path.{sym, _∙_}
-use native.Mathlib.Omega.{arith}
 use Rattle.blocks.specs.Reading.{part}
 use Rattle.blocks.proofs.Leaves.{cut}
 use Rattle.blocks.proofs.Files.{literal-back, filler-back}
