@@ -63,7 +63,13 @@ fn judge_with<B: Book, T: BranchTable>(
     let low = if entries < 64 { entries } else { 64 };
     let high = if more < 64 { more } else { 64 };
     let long = if bytes < 64 { bytes } else { 64 };
-    judge(book, table, &mut trail[..low], &mut choices[..high], &mut model[..long])
+    judge(
+        book,
+        table,
+        &mut trail[..low],
+        &mut choices[..high],
+        &mut model[..long],
+    )
 }
 
 fn at_packed<B: Book>(book: &B) -> Result<Verdict, Refusal> {
@@ -178,13 +184,28 @@ fn sizes() -> Result<(), Fail> {
     check_eq(at_listed(&book, 5), Err(Refusal::TableSmall))?;
     let mut bytes = [0u8; 2];
     let mut table = PackedTable::new(&mut bytes);
-    check_eq(judge_with(&book, &mut table, 6, 6, 6), Ok(Verdict::Consistent))?;
-    check_eq(judge_with(&book, &mut table, 5, 6, 5), Err(Refusal::StackSmall))?;
-    check_eq(judge_with(&book, &mut table, 6, 5, 5), Err(Refusal::StackSmall))?;
-    check_eq(judge_with(&book, &mut table, 6, 6, 5), Err(Refusal::MemoryShort))?;
+    check_eq(
+        judge_with(&book, &mut table, 6, 6, 6),
+        Ok(Verdict::Consistent),
+    )?;
+    check_eq(
+        judge_with(&book, &mut table, 5, 6, 5),
+        Err(Refusal::StackSmall),
+    )?;
+    check_eq(
+        judge_with(&book, &mut table, 6, 5, 5),
+        Err(Refusal::StackSmall),
+    )?;
+    check_eq(
+        judge_with(&book, &mut table, 6, 6, 5),
+        Err(Refusal::MemoryShort),
+    )?;
     let mut byte = [0u8; 1];
     let mut small = PackedTable::new(&mut byte);
-    check_eq(judge_with(&book, &mut small, 5, 5, 5), Err(Refusal::TableSmall))
+    check_eq(
+        judge_with(&book, &mut small, 5, 5, 5),
+        Err(Refusal::TableSmall),
+    )
 }
 
 // The bytes of the model, and those after it.
