@@ -3,10 +3,10 @@ ghost use mathlib.Core.Path.{_≡_};
 ghost use Prim.Native.Nat.{_≤_};
 ghost use lib.ListN.{length};
 ghost use Rattle.syntax.specs.Numbers.{atoms};
+ghost use Rattle.semantics.specs.Branch.{ClassTable as Classes};
 ghost use Rattle.classes.specs.Leaders.{leader-of};
 ghost use Rattle.tableau.specs.Signs.{Clear};
 ghost use Rattle.tableau.specs.Judged.{lent, size-refusal, Searched, Judged, Right, Unless-refused, One-verdict};
-use crate::clash::renew;
 use crate::search::decide;
 use crate::verdict::Verdict;
 use books::book::Book;
@@ -56,12 +56,12 @@ fn search<B: Book, T: BranchTable>(
     requires room { ⌜ atoms (B·Book .counts (now book)) ≤ T·BranchTable .room (now table) ⌝ }
     requires trail { ⌜ atoms (B·Book .counts (now book)) ≤ length (now trail) ⌝ }
     requires choices { ⌜ atoms (B·Book .counts (now book)) ≤ length (now choices) ⌝ }
+    requires fits { ⌜ Classes (B·Book .counts (now book)) (T·BranchTable .marks (now table)) (leader-of (now classes)) ⌝ }
     ensures searched { λ r. ⌜ Searched (B·Book .counts (now (book .entry))) (B·Book .clauses (now (book .entry))) (T·BranchTable .marks (now (table .exit))) (leader-of (now (classes .exit))) r ⌝ }
     ensures reach { λ _. ⌜ length (T·BranchTable .marks (now (table .exit))) ≡ length (T·BranchTable .marks (now (table .entry))) ⌝ }
     ensures room { λ _. ⌜ T·BranchTable .room (now (table .exit)) ≡ T·BranchTable .room (now (table .entry)) ⌝ }
     ensures loan { λ _. ⌜ T·BranchTable .loan (now (table .exit)) ≡ T·BranchTable .loan (now (table .entry)) ⌝ }
 {
-    let _ = renew(book, table, classes);
     let mut told = Stack::new(trail);
     let mut chosen = Stack::new(choices);
     decide(book, table, &mut told, &mut chosen, classes)

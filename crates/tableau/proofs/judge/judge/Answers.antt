@@ -3,7 +3,8 @@ use Prim.Native.Nat.{_≤_}
 use native.Mathlib.Omega.{arith}
 use lib.ListN.{length}
 use Rattle.syntax.specs.Numbers.{atoms}
-use Rattle.semantics.specs.Branch.{own}
+use Rattle.syntax.specs.declared.counts.Counts.{Counts}
+use Rattle.semantics.specs.Branch.{own, ClassTable}
 use Rattle.semantics.proofs.Own.{own-model}
 use Rattle.classes.specs.Leaders.{leader-of}
 use Rattle.tableau.specs.Signs.{Clear}
@@ -24,6 +25,7 @@ search-requires g c κs =
       room = omega (arith, all .in-room, is .room);
       trail = all .in-trail;
       choices = all .in-choices;
+      fits = subst (λ (n : Counts). ClassTable n (t .marks (c .clear .last .self)) (leader-of (c .of-classes .result))) (c .counts-counts .ensures) (c .of-classes .ensures);
     }
 
 pub returns-then-search : need.returns-then-search

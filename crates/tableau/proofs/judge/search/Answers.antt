@@ -31,7 +31,7 @@ decide-requires g c κs =
         reach-is = refl;
       };
       calm = clear-calm n ms (c .pre .clear);
-      fits = c .renew .ensures .fits;
+      fits = c .pre .fits;
     }
 
 pub returns : need.returns
