@@ -7,5 +7,7 @@ pub(crate) mod ranges;
 pub(crate) mod scan;
 pub(crate) mod search;
 pub(crate) mod survey;
+pub(crate) mod spans;
 pub(crate) mod sweep;
+pub(crate) mod touch;
 pub(crate) mod types;

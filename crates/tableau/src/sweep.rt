@@ -24,7 +24,7 @@ use tables::stack::Stack;
 use tables::table::BranchTable;
 
 // Tells a signed atom that follows from the branch.
-fn enforce<B: Book, T: BranchTable>(book: &B, table: &mut T, trail: &mut Stack<'_, u16>, choices: &Stack<'_, Choice>, classes: &mut ClassTable, l: SignedAtom) -> Pass
+pub(crate) fn enforce<B: Book, T: BranchTable>(book: &B, table: &mut T, trail: &mut Stack<'_, u16>, choices: &Stack<'_, Choice>, classes: &mut ClassTable, l: SignedAtom) -> Pass
     requires ready { ⌜ Set B·Book (now book) (moment T·BranchTable (now table) (now trail) (now choices)) (now classes) ⌝ }
     requires below { ⌜ l .atom < atoms (B·Book .counts (now book)) ⌝ }
     requires lies { ⌜ OpenIn (T·BranchTable .marks (now table)) l ⌝ }
@@ -40,7 +40,7 @@ fn enforce<B: Book, T: BranchTable>(book: &B, table: &mut T, trail: &mut Stack<'
 }
 
 // Tells what one instance forces.
-fn press<B: Book, T: BranchTable>(book: &B, table: &mut T, trail: &mut Stack<'_, u16>, choices: &Stack<'_, Choice>, classes: &mut ClassTable, i: usize, names: FourNames) -> Pass
+pub(crate) fn press<B: Book, T: BranchTable>(book: &B, table: &mut T, trail: &mut Stack<'_, u16>, choices: &Stack<'_, Choice>, classes: &mut ClassTable, i: usize, names: FourNames) -> Pass
     requires ready { ⌜ Set B·Book (now book) (moment T·BranchTable (now table) (now trail) (now choices)) (now classes) ⌝ }
     requires inside { ⌜ i < length (B·Book .clauses (now book)) ⌝ }
     requires below { ⌜ Below (B·Book .counts (now book)) names ⌝ }
@@ -55,7 +55,7 @@ fn press<B: Book, T: BranchTable>(book: &B, table: &mut T, trail: &mut Stack<'_,
     }
 }
 
-fn pass_of(moved: bool) -> Pass
+pub(crate) fn pass_of(moved: bool) -> Pass
     ensures { λ r. ⌜ r ≡ pass-by moved ⌝ }
 {
     if moved { Pass::Moved } else { Pass::Rest }

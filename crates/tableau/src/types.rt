@@ -67,3 +67,19 @@ pub(crate) enum Outcome {
     Failed,
     Moved,
 }
+
+// The names that a variable may stand for: `count` of them, from `first` on.
+#[derive(Clone, Copy)]
+pub(crate) struct Span {
+    pub(crate) first: u8,
+    pub(crate) count: u8,
+}
+
+// The same of the variables 0 to 3.
+#[derive(Clone, Copy)]
+pub(crate) struct Spans {
+    pub(crate) x: Span,
+    pub(crate) y: Span,
+    pub(crate) z: Span,
+    pub(crate) w: Span,
+}
