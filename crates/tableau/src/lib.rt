@@ -3,6 +3,7 @@ pub mod judge;
 pub mod verdict;
 pub(crate) mod clash;
 pub(crate) mod moves;
+pub(crate) mod pursue;
 pub(crate) mod ranges;
 pub(crate) mod scan;
 pub(crate) mod search;
