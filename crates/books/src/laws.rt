@@ -7,5 +7,4 @@ pub fn call_laws() -> ()
     ensures enters { λ _. ⌜ Enter-settled ⌝ }
     ensures strikes { λ _. ⌜ Strike-settled ⌝ }
     ensures supposes { λ _. ⌜ Suppose-settled ⌝ }
-{
-}
+{}

@@ -11,7 +11,7 @@ use Rattle.syntax.specs.declared.types.Mark.the-variants.{Yes}
 use Rattle.syntax.specs.declared.counts.Counts.{Counts}
 use Rattle.semantics.specs.Branch.{Branch, mark-at, Linked, self, told, back, on, ClassTable}
 use Rattle.semantics.proofs.Own.{table-from}
-use Rattle.classes.specs.Leaders.{Coarser, Joined, Leading, leader-in, relabel}
+use Rattle.classes.specs.Linking.{Coarser, Joined, Leading, leader-in, relabel}
 
 relabel-cases : (p q v : ℕ) → ((v ≡ max p q) × (relabel p q v ≡ min p q)) ⊎ ((v ≡ max p q → ⊥) × (relabel p q v ≡ v))
 relabel-cases p q v = ⊎-elim (λ e. inl (e, cond-true _ _ _ (eq-eqb _ _ e))) (λ ne. inr (ne, cond-false _ _ _ (ne-eqb _ _ ne))) (cases-eq v (max p q))

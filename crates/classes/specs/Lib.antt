@@ -1,4 +1,5 @@
 pub mod Leaders
+pub mod Linking
 pub mod Symbols
 pub mod Clashes
 pub mod Models

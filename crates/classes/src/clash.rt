@@ -34,7 +34,9 @@ fn row_meets<T: BranchTable>(
     ensures { λ r. ⌜ Decides r (MeetsRow counts (T·BranchTable .marks (now (table .entry))) (leader-of (now (classes .entry))) symbol x b mark) ⌝ }
 {
     for y in 0..symbol.width(counts) {
-        if classes.leader(y) == classes.leader(b) && mark_of(counts, table, symbol.atom(x, y)) == mark {
+        if classes.leader(y) == classes.leader(b)
+            && mark_of(counts, table, symbol.atom(x, y)) == mark
+        {
             return true;
         }
     }
@@ -55,7 +57,9 @@ fn meets<T: BranchTable>(
     ensures { λ r. ⌜ Decides r (Meets counts (T·BranchTable .marks (now (table .entry))) (leader-of (now (classes .entry))) symbol a b mark) ⌝ }
 {
     for x in 0..counts.names() {
-        if classes.leader(x) == classes.leader(a) && row_meets(counts, table, classes, symbol, x, b, mark) {
+        if classes.leader(x) == classes.leader(a)
+            && row_meets(counts, table, classes, symbol, x, b, mark)
+        {
             return true;
         }
     }
@@ -85,7 +89,15 @@ pub fn clashes_at<T: BranchTable>(
     match atom {
         Ground::Same(a, b) => !sign && classes.leader(a) == classes.leader(b),
         Ground::Prop(p, a) => {
-            meets(counts, table, classes, Symbol::Prop(p), a, 0, opposite(sign))
+            meets(
+                counts,
+                table,
+                classes,
+                Symbol::Prop(p),
+                a,
+                0,
+                opposite(sign),
+            )
         }
         Ground::Rel(r, a, b) => {
             meets(counts, table, classes, Symbol::Rel(r), a, b, opposite(sign))
@@ -151,7 +163,9 @@ fn row_clashes<T: BranchTable>(counts: Counts, table: &T, classes: &ClassTable, 
     ensures { λ r. ⌜ Decides r (SameNo counts (T·BranchTable .marks (now (table .entry))) (leader-of (now (classes .entry))) a) ⌝ }
 {
     for b in 0..counts.names() {
-        if classes.leader(a) == classes.leader(b) && mark_of(counts, table, Ground::Same(a, b)) == Mark::No {
+        if classes.leader(a) == classes.leader(b)
+            && mark_of(counts, table, Ground::Same(a, b)) == Mark::No
+        {
             return true;
         }
     }

@@ -39,7 +39,12 @@ fn write_same_row(counts: Counts, classes: &ClassTable, a: u8, memory: &mut [u8]
     ensures { λ _. ⌜ SameRowWritten counts (leader-of (now (classes .entry))) a (counts .names) (now (memory .entry)) (now (memory .exit)) ⌝ }
 {
     for b in 0..counts.names() {
-        put(counts, memory, Ground::Same(a, b), classes.leader(a) == classes.leader(b));
+        put(
+            counts,
+            memory,
+            Ground::Same(a, b),
+            classes.leader(a) == classes.leader(b),
+        );
     }
 }
 
@@ -68,7 +73,12 @@ fn write_row(
     ensures { λ _. ⌜ RowWritten counts (leader-of (now (classes .entry))) symbol (now (found .entry)) x (width counts symbol) (now (memory .entry)) (now (memory .exit)) ⌝ }
 {
     for y in 0..symbol.width(counts) {
-        put(counts, memory, symbol.atom(x, y), found[slot(classes, x, y)]);
+        put(
+            counts,
+            memory,
+            symbol.atom(x, y),
+            found[slot(classes, x, y)],
+        );
     }
 }
 

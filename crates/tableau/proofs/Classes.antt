@@ -22,7 +22,7 @@ use Rattle.tableau.specs.Signs.{StandsIn}
 use Rattle.tableau.proofs.Clauses.{same-signed}
 
 module _ (c : Counts) (marks : Branch) (leader : ℕ → ℕ) (l : SignedAtom) (g : Ground) (lawful : LawfulGround c g) (is : number-of c g ≡ l .atom) (stands : StandsIn marks l) (inside : l .atom < length marks)
-  (fits : ClassTable c (set marks (l .atom) Open) leader) (calm : Clash c (set marks (l .atom) Open) → ⊥) (none : JoinsNone leader g (l .sign)) where
+    (fits : ClassTable c (set marks (l .atom) Open) leader) (calm : Clash c (set marks (l .atom) Open) → ⊥) (none : JoinsNone leader g (l .sign)) where
   was-open : mark-at c (set marks (l .atom) Open) g ≡ Open
   was-open = ap (λ k. getD (set marks (l .atom) Open) k Open) is ∙ getD-set-same marks (l .atom) Open Open inside
 

@@ -86,27 +86,27 @@ abbrev own : Clause → Assignment → Assignment
 own cl σ v = cond (uses v cl) (σ v) 0
 
 own-ground : (c : Counts) (cl : Clause) (σ : Assignment) (l : Literal) → l ∈ cl → LawfulLiteral c l
-  → ground (four (own cl σ 0) (own cl σ 1) (own cl σ 2) (own cl σ 3)) (l .atom) ≡ ground σ (l .atom)
+    → ground (four (own cl σ 0) (own cl σ 1) (own cl σ 2) (own cl σ 3)) (l .atom) ≡ ground σ (l .atom)
 own-ground c cl σ l in-cl law =
     ground-same c (four (own cl σ 0) (own cl σ 1) (own cl σ 2) (own cl σ 3)) (own cl σ) (l .atom) (four-at (own cl σ)) law
     ∙ ground-used (own cl σ) σ (l .atom) (λ v u. cond-true (uses v cl) (σ v) 0 (all-has (λ (m : Literal). atom-uses v (m .atom) ≡ true → uses v cl ≡ true) cl l (uses-in v cl) in-cl u))
 
 -- every instance of a clause has a literal that stands, if every one of its own variables has
 stands-always : (c : Counts) (marks : Branch) (cl : Clause) → Lawful c cl
-  → ((k : ℕ) → k < size (ranges c cl) → Some-of (StandsIn marks) (instance c (names-of (nth-names (ranges c cl) k)) cl))
-  → (σ : Assignment) → Assigns c σ → SomeStands c marks σ cl
+    → ((k : ℕ) → k < size (ranges c cl) → Some-of (StandsIn marks) (instance c (names-of (nth-names (ranges c cl) k)) cl))
+    → (σ : Assignment) → Assigns c σ → SomeStands c marks σ cl
 stands-always c marks cl law each σ assigns =
     let (k, h, e) = placed (ranges c cl) (own cl σ 0) (own cl σ 1) (own cl σ 2) (own cl σ 3)
-        (in-range (uses 0 cl) (σ 0) (c .names) (assigns 0 (omega arith)))
-        (in-range (uses 1 cl) (σ 1) (c .names) (assigns 1 (omega arith)))
-        (in-range (uses 2 cl) (σ 2) (c .names) (assigns 2 (omega arith)))
-        (in-range (uses 3 cl) (σ 3) (c .names) (assigns 3 (omega arith))) in
+    (in-range (uses 0 cl) (σ 0) (c .names) (assigns 0 (omega arith)))
+    (in-range (uses 1 cl) (σ 1) (c .names) (assigns 1 (omega arith)))
+    (in-range (uses 2 cl) (σ 2) (c .names) (assigns 2 (omega arith)))
+    (in-range (uses 3 cl) (σ 3) (c .names) (assigns 3 (omega arith))) in
     let P : FourNames → Type 0 = λ n. Some-of (StandsIn marks) (instance c (names-of n) cl) in
     let (l, in-cl, so) = some-stands c marks (four (own cl σ 0) (own cl σ 1) (own cl σ 2) (own cl σ 3)) cl (subst P e (each k h)) in
     (l, in-cl, ap (mark-at c marks) (sym (own-ground c cl σ l in-cl (all-has (LawfulLiteral c) cl l (law .each) in-cl))) ∙ so)
 
 pub fulfilled : (c : Counts) (clauses : List Clause) (marks : Branch) → AllLawful c clauses
-  → ((i : ℕ) → i < length clauses → (k : ℕ) → k < size (ranges c (getD clauses i [])) → Some-of (StandsIn marks) (instance c (names-of (nth-names (ranges c (getD clauses i [])) k)) (getD clauses i [])))
-  → Fulfilled c clauses marks
+    → ((i : ℕ) → i < length clauses → (k : ℕ) → k < size (ranges c (getD clauses i [])) → Some-of (StandsIn marks) (instance c (names-of (nth-names (ranges c (getD clauses i [])) k)) (getD clauses i [])))
+    → Fulfilled c clauses marks
 fulfilled c clauses marks lawful each cl (i, h, e) σ assigns =
     subst (SomeStands c marks σ) (e []) (stands-always c marks (getD clauses i []) (all-getD (Lawful c) clauses i [] h lawful) (each i h) σ assigns)

@@ -11,7 +11,9 @@ use Rattle.syntax.specs.declared.types.Mark.{Mark}
 use Rattle.syntax.specs.declared.types.Mark.the-variants.{Yes, No, Open}
 use Rattle.tables.specs.declared.stack.Choice.{Choice}
 use Rattle.tables.specs.Marks.{signed, standing}
-use Rattle.tables.specs.Memory.{Loan}
+use Rattle.tables.specs.declared.table.BranchTable.{Ghosts as TableGhosts}
+use Rattle.tables.specs.declared.stack.Stack.{Stack}
+use Rattle.tables.specs.Items.{slots-of, loan-of}
 use Rattle.tables.specs.Walks.{opened}
 use Rattle.tables.specs.Counting.{Open-from}
 use Rattle.tableau.specs.declared.types.SignedAtom.{SignedAtom}
@@ -19,6 +21,7 @@ use Rattle.tableau.specs.Signs.{Valuation, Holds, Some-of, Clear, OpenIn, Stan
 use Rattle.tableau.specs.Branch.{Models, Clashes, Step, forced, chosen, told, trail-of, choice, choices-of, marks-of, Held, Forces, Refuted, Reason, Sound, Frame, Roomy, Moment, State, weight}
 use Rattle.tableau.specs.Scans.{AllBut, NoModel, Entails}
 use Rattle.tableau.specs.Turns.{Puttable, Put, Chosen, Modelless}
+use Rattle.tableau.specs.Views.{moment}
 use Rattle.tableau.proofs.Steps.{choices-le, length-trail, length-marks, standing-steps, steps-le, steps-lt, beyond, agrees, broken-fails, unit-holds, refuted-none, opened-all, set-back, Cut, cut}
 use Rattle.tableau.proofs.Weights.{forced-falls, chosen-falls, back-falls}
 
@@ -41,12 +44,12 @@ module _ (l : SignedAtom) (ms : List Mark) (ms′ : List Mark) (is : ms′ ≡ s
   pub put-length : length ms′ ≡ length ms
   put-length = ap length is ∙ length-set ms (l .atom) (signed (l .sign))
 
-abbrev frame-of : Loan → ℕ → ℕ → ℕ → ℕ → ℕ → ℕ → Frame
-frame-of l r n ts tl cs cl = record { loan = l; room = r; reach = n; trail-slots = ts; trail-loan = tl; choice-slots = cs; choice-loan = cl }
-
-pub same-frame : {l l′ : Loan} {r r′ n n′ ts ts′ tl tl′ cs cs′ cl cl′ : ℕ} → l′ ≡ l → r′ ≡ r → n′ ≡ n → ts′ ≡ ts → tl′ ≡ tl → cs′ ≡ cs → cl′ ≡ cl
-  → frame-of l′ r′ n′ ts′ tl′ cs′ cl′ ≡ frame-of l r n ts tl cs cl
-same-frame a b c d e g h = cc
+pub same-frame :
+    {T : Type 0} (t : TableGhosts T) (table table′ : T) (trail trail′ : Stack ℕ) (choices choices′ : Stack Choice) →
+    t .loan table′ ≡ t .loan table → t .room table′ ≡ t .room table → length (t .marks table′) ≡ length (t .marks table) →
+    slots-of trail′ ≡ slots-of trail → loan-of trail′ ≡ loan-of trail → slots-of choices′ ≡ slots-of choices → loan-of choices′ ≡ loan-of choices →
+    moment t table′ trail′ choices′ .frame ≡ moment t table trail choices .frame
+same-frame t table table′ trail trail′ choices choices′ a b c d e f g = cc
 
 -- the opposite of a choice
 abbrev pub flipped : Choice → SignedAtom
@@ -196,8 +199,8 @@ module _ {M : Models} {K : Clashes} {atoms : ℕ} {m : Moment} (st : State M K a
 
 -- and its opposite is told: the weight is below that before
 pub back-lighter : {M : Models} {K : Clashes} {atoms : ℕ} {c : Choice} {m m′ : Moment} → Back M K atoms c m → Put (flipped c) m m′
-  → (old : List ℕ) (choices : List Choice) → choices ≡ m .choices ++ (c ∷ [])
-  → weight atoms (m′ .trail) (m′ .choices) < weight atoms old choices
+    → (old : List ℕ) (choices : List Choice) → choices ≡ m .choices ++ (c ∷ [])
+    → weight atoms (m′ .trail) (m′ .choices) < weight atoms old choices
 back-lighter {atoms = atoms} {c = c} {m = m} {m′ = m′} b p old choices is =
     let n : length (m′ .trail) ≡ c .height + 1 = ap length (p .trail-is) ∙ length-push (m .trail) (c .atom) ∙ ap (λ k. k + 1) (b .height) in
     let w : weight atoms old choices ≡ weight atoms old (m .choices ++ (c ∷ [])) = ap (weight atoms old) is in

@@ -45,8 +45,13 @@ module _ (M : Models) (K : Clashes) (atoms : ℕ) (base : List Mark) (clear : Cl
   pub standing-steps : (b : List Step) → Sound M K atoms base b → standing (marks-of base b) ≡ length b
   standing-steps [] h = clear-none base clear
   standing-steps (s ∷ b) h =
-      omega (arith, standing-set (marks-of base b) (told s .atom) (signed (told s .sign)) (omega (arith, h .1, length-marks base b))
-      , stands-signed (told s .sign), ap stands (h .2), standing-steps b (h .3))
+      omega (
+        arith,
+        standing-set (marks-of base b) (told s .atom) (signed (told s .sign)) (omega (arith, h .1, length-marks base b)),
+        stands-signed (told s .sign),
+        ap stands (h .2),
+        standing-steps b (h .3),
+      )
 
   pub beyond : (b : List Step) → Sound M K atoms base b → Open-from atoms (marks-of base b)
   beyond [] h k l = clear k
@@ -62,7 +67,7 @@ module _ (M : Models) (K : Clashes) (atoms : ℕ) (base : List Mark) (clear : Cl
   steps-lt b l h lt lies =
       let ms = marks-of base b in
       let far : (k : ℕ) → atoms ≤ k → getD (set ms (l .atom) Yes) k Open ≡ Open =
-          λ k le. let ne : k ≢ l .atom = λ (e : k ≡ l .atom). omega arith in getD-set-other ms (l .atom) k Yes Open ne ∙ beyond b h k le in
+      λ k le. let ne : k ≢ l .atom = λ (e : k ≡ l .atom). omega arith in getD-set-other ms (l .atom) k Yes Open ne ∙ beyond b h k le in
       omega (arith, standing-steps b h, at-most atoms (set ms (l .atom) Yes) far, standing-set ms (l .atom) Yes (omega (arith, length-marks base b)), ap stands lies)
 
 -- a model that makes the choices hold has each standing atom as it stands
@@ -76,14 +81,14 @@ holds-told M K base b (chosen l) v r sat held rest = held
 
 says-set : (ms : List Mark) (l : SignedAtom) (v : Valuation) → l .atom < length ms → Holds v l → Agrees ms v → Agrees (set ms (l .atom) (signed (l .sign))) v
 says-set ms l v h e all k = elim (cases-eq k (l .atom)) [
-    inl same ↦
+  | inl same ↦
       let P : ℕ → Type 0 = λ i. Says (getD (set ms (l .atom) (signed (l .sign))) i Open) (v i) in
       subst P (sym same) (let Q : Mark → Type 0 = λ m. Says m (v (l .atom)) in subst Q (sym (getD-set-same ms (l .atom) (signed (l .sign)) Open h)) (says-signed (v (l .atom)) (l .sign) e))
   | inr other ↦ let Q : Mark → Type 0 = λ m. Says m (v k) in subst Q (sym (getD-set-other ms (l .atom) k (signed (l .sign)) Open other)) (all k)
-  ]
+]
 
 pub agrees : (M : Models) (K : Clashes) (atoms : ℕ) (base : List Mark) → Clear base → atoms ≤ length base
-  → (b : List Step) → Sound M K atoms base b → (v : Valuation) → M v → Held v b → Agrees (marks-of base b) v
+    → (b : List Step) → Sound M K atoms base b → (v : Valuation) → M v → Held v b → Agrees (marks-of base b) v
 agrees M K atoms base clear reaches [] h v sat held k = let Q : Mark → Type 0 = λ m. Says m (v k) in subst Q (sym (clear k)) tt
 agrees M K atoms base clear reaches (s ∷ b) h v sat held k =
     says-set (marks-of base b) (told s) v (omega (arith, h .1, length-marks base b)) (holds-told M K base b s v (h .0) sat (held .0) (held .1))
@@ -103,9 +108,9 @@ broken-fails ms c v all d (l, has, e) = denied-fails ms l v all (all-has (Denied
 -- the one that is not denied holds
 pub unit-holds : (ms : List Mark) (c : List SignedAtom) (l : SignedAtom) (v : Valuation) → Agrees ms v → AllBut ms l c → Some-of (Holds v) c → Holds v l
 unit-holds ms c l v all d (m, has, e) = elim (all-has (λ m. DeniedIn ms m ⊎ (m ≡ l)) c m d has) [
-    inl denied ↦ absurd (denied-fails ms m v all denied e)
+  | inl denied ↦ absurd (denied-fails ms m v all denied e)
   | inr same ↦ subst (Holds v) same e
-  ]
+]
 
 -- no choices: every valuation makes them hold
 no-push : {X : Type 0} (xs : List X) (x : X) → xs ++ (x ∷ []) ≡ [] → ⊥
@@ -156,7 +161,7 @@ other-sign false true h = refl
 other-sign false false h = absurd (h refl)
 
 pub cut : (M : Models) (K : Clashes) (atoms : ℕ) (base : List Mark) (b : List Step) (cs : List Choice) (c : Choice)
-  → Sound M K atoms base b → choices-of b ≡ cs ++ (c ∷ []) → Cut M K atoms base b cs c
+    → Sound M K atoms base b → choices-of b ≡ cs ++ (c ∷ []) → Cut M K atoms base b cs c
 cut M K atoms base [] cs c h e = absurd (no-push cs c (sym e))
 cut M K atoms base (forced l ∷ b) cs c h e =
     let r = cut M K atoms base b cs c (h .3) e in
@@ -169,9 +174,9 @@ cut M K atoms base (forced l ∷ b) cs c h e =
       lower = omega (arith, r .lower);
       trail = take-append-le (c .height) (trail-of b) (l .atom ∷ []) n ∙ r .trail;
       marks =
-        ap (opened (marks-of base (forced l ∷ b))) (drop-append-le (c .height) (trail-of b) (l .atom ∷ []) n)
-        ∙ opened-one base b (forced l) (drop (c .height) (trail-of b)) (h .2)
-        ∙ r .marks;
+          ap (opened (marks-of base (forced l ∷ b))) (drop-append-le (c .height) (trail-of b) (l .atom ∷ []) n)
+          ∙ opened-one base b (forced l) (drop (c .height) (trail-of b)) (h .2)
+          ∙ r .marks;
       below = r .below;
       lies = r .lies;
       calm = r .calm;
@@ -189,8 +194,8 @@ cut M K atoms base (chosen l ∷ b) cs c h e =
       lower = omega arith;
       trail = take-at (trail-of b) (l .atom ∷ []) (length b) (length-trail b);
       marks =
-        ap (opened (marks-of base (chosen l ∷ b))) (drop-at (trail-of b) (l .atom ∷ []) (length b) (length-trail b))
-        ∙ set-back (marks-of base b) (l .atom) (signed (l .sign)) (h .2);
+          ap (opened (marks-of base (chosen l ∷ b))) (drop-at (trail-of b) (l .atom ∷ []) (length b) (length-trail b))
+          ∙ set-back (marks-of base b) (l .atom) (signed (l .sign)) (h .2);
       below = h .1;
       lies = h .2;
       calm = h .0;

@@ -47,9 +47,9 @@ lent t table trail choices model =
 abbrev pub size-refusal : Counts → (reach room trail choices model : ℕ) → Option Refusal
 size-refusal c reach room trail choices model = first-of (
     (ltb reach (atoms c) || ltb room (atoms c), TableSmall)
-  ∷ (ltb trail (atoms c) || ltb choices (atoms c), StackSmall)
-  ∷ (ltb model (atoms c), MemoryShort)
-  ∷ [])
+    ∷ (ltb trail (atoms c) || ltb choices (atoms c), StackSmall)
+    ∷ (ltb model (atoms c), MemoryShort)
+    ∷ [])
 
 abbrev pub judge-refusal : Counts → Lent → Option Refusal
 judge-refusal c m = size-refusal c (length (m .marks)) (m .room) (length (m .trail)) (length (m .choices)) (length (m .model))

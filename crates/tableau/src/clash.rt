@@ -40,7 +40,12 @@ pub(crate) fn renew<B: Book, T: BranchTable>(book: &B, table: &T, classes: &mut 
 }
 
 // The same after one atom was told on a branch that these classes fit and that did not clash.
-pub(crate) fn refresh<B: Book, T: BranchTable>(book: &B, table: &T, classes: &mut ClassTable, l: SignedAtom) -> bool
+pub(crate) fn refresh<B: Book, T: BranchTable>(
+    book: &B,
+    table: &T,
+    classes: &mut ClassTable,
+    l: SignedAtom,
+) -> bool
     requires below { ⌜ l .atom < atoms (B·Book .counts (now book)) ⌝ }
     requires inside { ⌜ l .atom < length (T·BranchTable .marks (now table)) ⌝ }
     requires stands { ⌜ StandsIn (T·BranchTable .marks (now table)) l ⌝ }

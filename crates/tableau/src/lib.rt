@@ -1,7 +1,6 @@
 // Judging: whether some interpretation satisfies every clause of a book, and if so one that does.
-pub mod judge;
-pub mod verdict;
 pub(crate) mod clash;
+pub mod judge;
 pub(crate) mod moves;
 pub(crate) mod pursue;
 pub(crate) mod ranges;
@@ -12,3 +11,4 @@ pub(crate) mod spans;
 pub(crate) mod sweep;
 pub(crate) mod touch;
 pub(crate) mod types;
+pub mod verdict;

@@ -23,18 +23,32 @@ pub(crate) fn put<T: BranchTable>(table: &mut T, trail: &mut Stack<'_, u16>, l: 
 }
 
 // Chooses an open atom with a sign.
-pub(crate) fn choose<T: BranchTable>(table: &mut T, trail: &mut Stack<'_, u16>, choices: &mut Stack<'_, Choice>, l: SignedAtom)
+pub(crate) fn choose<T: BranchTable>(
+    table: &mut T,
+    trail: &mut Stack<'_, u16>,
+    choices: &mut Stack<'_, Choice>,
+    l: SignedAtom,
+)
     requires put { ⌜ Puttable l (T·BranchTable .marks (now table)) (T·BranchTable .room (now table)) (items (now trail)) (slots-of (now trail)) ⌝ }
     requires short { ⌜ length (items (now trail)) < 65536 ⌝ }
     requires slot { ⌜ length (items (now choices)) < slots-of (now choices) ⌝ }
     ensures { λ _. ⌜ Chosen l (moment T·BranchTable (now (table .entry)) (now (trail .entry)) (now (choices .entry))) (moment T·BranchTable (now (table .exit)) (now (trail .exit)) (now (choices .exit))) ⌝ }
 {
-    let _ = choices.push(Choice { height: trail.height() as u16, atom: l.atom, sign: l.sign });
+    let _ = choices.push(Choice {
+        height: trail.height() as u16,
+        atom: l.atom,
+        sign: l.sign,
+    });
     put(table, trail, l);
 }
 
 // Takes the latest choice back and tells its opposite; with no choice left, takes everything back.
-pub(crate) fn flip<B: Book, T: BranchTable>(book: &B, table: &mut T, trail: &mut Stack<'_, u16>, choices: &mut Stack<'_, Choice>) -> Option<SignedAtom>
+pub(crate) fn flip<B: Book, T: BranchTable>(
+    book: &B,
+    table: &mut T,
+    trail: &mut Stack<'_, u16>,
+    choices: &mut Stack<'_, Choice>,
+) -> Option<SignedAtom>
     requires state { ⌜ Searching B·Book (now book) (moment T·BranchTable (now table) (now trail) (now choices)) ⌝ }
     requires hopeless { ⌜ Hopeless B·Book (now book) (moment T·BranchTable (now table) (now trail) (now choices)) ⌝ }
     ensures { λ r. ⌜ Flips B·Book (now (book .entry)) (moment T·BranchTable (now (table .entry)) (now (trail .entry)) (now (choices .entry))) (moment T·BranchTable (now (table .exit)) (now (trail .exit)) (now (choices .exit))) r ⌝ }
@@ -42,7 +56,10 @@ pub(crate) fn flip<B: Book, T: BranchTable>(book: &B, table: &mut T, trail: &mut
     match choices.pop() {
         Some(choice) => {
             untell_to(table, trail, choice.height as usize);
-            let opposite = SignedAtom { atom: choice.atom, sign: !choice.sign };
+            let opposite = SignedAtom {
+                atom: choice.atom,
+                sign: !choice.sign,
+            };
             put(table, trail, opposite);
             Some(opposite)
         }

@@ -48,14 +48,23 @@ fn is_used<B: Book>(book: &B, i: usize, v: u8) -> bool
 fn range<B: Book>(book: &B, i: usize, v: u8) -> usize
     ensures { λ r. ⌜ r ≡ range-by (B·Book .counts (now (book .entry))) (getD (B·Book .clauses (now (book .entry))) i []) v ⌝ }
 {
-    if is_used(book, i, v) { book.counts().names() as usize } else { 1 }
+    if is_used(book, i, v) {
+        book.counts().names() as usize
+    } else {
+        1
+    }
 }
 
 // The same of all four variables.
 pub(crate) fn ranges<B: Book>(book: &B, i: usize) -> Ranges
     ensures { λ r. ⌜ r ≡ ranges-by (B·Book .counts (now (book .entry))) (getD (B·Book .clauses (now (book .entry))) i []) ⌝ }
 {
-    Ranges { x: range(book, i, 0), y: range(book, i, 1), z: range(book, i, 2), w: range(book, i, 3) }
+    Ranges {
+        x: range(book, i, 0),
+        y: range(book, i, 1),
+        z: range(book, i, 2),
+        w: range(book, i, 3),
+    }
 }
 
 // How many assignments there are.

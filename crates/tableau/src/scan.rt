@@ -55,8 +55,14 @@ fn signed_atom(counts: Counts, names: FourNames, l: Literal) -> SignedAtom
     ensures below { λ r. ⌜ r .atom < atoms counts ⌝ }
 {
     match atom_number(counts, ground(names, l.atom)) {
-        Some(k) => SignedAtom { atom: k as u16, sign: l.sign },
-        None => SignedAtom { atom: 0, sign: l.sign },
+        Some(k) => SignedAtom {
+            atom: k as u16,
+            sign: l.sign,
+        },
+        None => SignedAtom {
+            atom: 0,
+            sign: l.sign,
+        },
     }
 }
 
@@ -86,7 +92,12 @@ fn opens(status: Status, l: SignedAtom) -> Status
 }
 
 // How an instance of clause i stands on the branch.
-pub(crate) fn evaluate<B: Book, T: BranchTable>(book: &B, table: &T, i: usize, names: FourNames) -> Status
+pub(crate) fn evaluate<B: Book, T: BranchTable>(
+    book: &B,
+    table: &T,
+    i: usize,
+    names: FourNames,
+) -> Status
     requires inside { ⌜ i < length (B·Book .clauses (now book)) ⌝ }
     requires below { ⌜ Below (B·Book .counts (now book)) names ⌝ }
     requires reaches { ⌜ atoms (B·Book .counts (now book)) ≤ length (T·BranchTable .marks (now table)) ⌝ }

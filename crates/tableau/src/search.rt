@@ -22,7 +22,14 @@ use tables::stack::Stack;
 use tables::table::BranchTable;
 
 // Chooses a signed atom: whether there is hope.
-fn branch<B: Book, T: BranchTable>(book: &B, table: &mut T, trail: &mut Stack<'_, u16>, choices: &mut Stack<'_, Choice>, classes: &mut ClassTable, l: SignedAtom) -> bool
+fn branch<B: Book, T: BranchTable>(
+    book: &B,
+    table: &mut T,
+    trail: &mut Stack<'_, u16>,
+    choices: &mut Stack<'_, Choice>,
+    classes: &mut ClassTable,
+    l: SignedAtom,
+) -> bool
     requires ready { ⌜ Set B·Book (now book) (moment T·BranchTable (now table) (now trail) (now choices)) (now classes) ⌝ }
     requires below { ⌜ l .atom < atoms (B·Book .counts (now book)) ⌝ }
     requires lies { ⌜ OpenIn (T·BranchTable .marks (now table)) l ⌝ }
@@ -37,7 +44,13 @@ fn branch<B: Book, T: BranchTable>(book: &B, table: &mut T, trail: &mut Stack<'_
 }
 
 // Takes choices back until one's opposite does not clash.
-fn backtrack<B: Book, T: BranchTable>(book: &B, table: &mut T, trail: &mut Stack<'_, u16>, choices: &mut Stack<'_, Choice>, classes: &mut ClassTable) -> Outcome
+fn backtrack<B: Book, T: BranchTable>(
+    book: &B,
+    table: &mut T,
+    trail: &mut Stack<'_, u16>,
+    choices: &mut Stack<'_, Choice>,
+    classes: &mut ClassTable,
+) -> Outcome
     requires state { ⌜ Searching B·Book (now book) (moment T·BranchTable (now table) (now trail) (now choices)) ⌝ }
     requires hopeless { ⌜ Hopeless B·Book (now book) (moment T·BranchTable (now table) (now trail) (now choices)) ⌝ }
     ensures turned { λ r. ⌜ Turns B·Book (now (book .entry)) (moment T·BranchTable (now (table .entry)) (now (trail .entry)) (now (choices .entry))) (moment T·BranchTable (now (table .exit)) (now (trail .exit)) (now (choices .exit))) r ⌝ }
@@ -52,7 +65,13 @@ fn backtrack<B: Book, T: BranchTable>(book: &B, table: &mut T, trail: &mut Stack
 }
 
 // Makes a choice where the sweep came to rest, unless every instance is fulfilled.
-fn decide_on<B: Book, T: BranchTable>(book: &B, table: &mut T, trail: &mut Stack<'_, u16>, choices: &mut Stack<'_, Choice>, classes: &mut ClassTable) -> Outcome
+fn decide_on<B: Book, T: BranchTable>(
+    book: &B,
+    table: &mut T,
+    trail: &mut Stack<'_, u16>,
+    choices: &mut Stack<'_, Choice>,
+    classes: &mut ClassTable,
+) -> Outcome
     requires { ⌜ Set B·Book (now book) (moment T·BranchTable (now table) (now trail) (now choices)) (now classes) ⌝ }
     ensures turned { λ r. ⌜ Turns B·Book (now (book .entry)) (moment T·BranchTable (now (table .entry)) (now (trail .entry)) (now (choices .entry))) (moment T·BranchTable (now (table .exit)) (now (trail .exit)) (now (choices .exit))) r ⌝ }
     ensures fits { λ r. ⌜ Fits-when B·Book (now (book .entry)) (moment T·BranchTable (now (table .exit)) (now (trail .exit)) (now (choices .exit))) (now (classes .exit)) r ⌝ }
@@ -71,7 +90,13 @@ fn decide_on<B: Book, T: BranchTable>(book: &B, table: &mut T, trail: &mut Stack
 }
 
 // One turn: tells what the instances force, or takes a choice back, or makes one.
-fn turn<B: Book, T: BranchTable>(book: &B, table: &mut T, trail: &mut Stack<'_, u16>, choices: &mut Stack<'_, Choice>, classes: &mut ClassTable) -> Outcome
+fn turn<B: Book, T: BranchTable>(
+    book: &B,
+    table: &mut T,
+    trail: &mut Stack<'_, u16>,
+    choices: &mut Stack<'_, Choice>,
+    classes: &mut ClassTable,
+) -> Outcome
     requires { ⌜ Set B·Book (now book) (moment T·BranchTable (now table) (now trail) (now choices)) (now classes) ⌝ }
     ensures turned { λ r. ⌜ Turns B·Book (now (book .entry)) (moment T·BranchTable (now (table .entry)) (now (trail .entry)) (now (choices .entry))) (moment T·BranchTable (now (table .exit)) (now (trail .exit)) (now (choices .exit))) r ⌝ }
     ensures fits { λ r. ⌜ Fits-when B·Book (now (book .entry)) (moment T·BranchTable (now (table .exit)) (now (trail .exit)) (now (choices .exit))) (now (classes .exit)) r ⌝ }
@@ -84,7 +109,13 @@ fn turn<B: Book, T: BranchTable>(book: &B, table: &mut T, trail: &mut Stack<'_, 
 }
 
 // Whether there is a model.
-pub(crate) fn decide<B: Book, T: BranchTable>(book: &B, table: &mut T, trail: &mut Stack<'_, u16>, choices: &mut Stack<'_, Choice>, classes: &mut ClassTable) -> bool
+pub(crate) fn decide<B: Book, T: BranchTable>(
+    book: &B,
+    table: &mut T,
+    trail: &mut Stack<'_, u16>,
+    choices: &mut Stack<'_, Choice>,
+    classes: &mut ClassTable,
+) -> bool
     requires { ⌜ Set B·Book (now book) (moment T·BranchTable (now table) (now trail) (now choices)) (now classes) ⌝ }
     ensures decided { λ r. ⌜ Decides B·Book (now (book .entry)) (moment T·BranchTable (now (table .entry)) (now (trail .entry)) (now (choices .entry))) (moment T·BranchTable (now (table .exit)) (now (trail .exit)) (now (choices .exit))) r ⌝ }
     ensures fits { λ r. ⌜ (r ≡ true → Fits B·Book (now (book .entry)) (moment T·BranchTable (now (table .exit)) (now (trail .exit)) (now (choices .exit))) (now (classes .exit))) ⌝ }

@@ -24,7 +24,14 @@ use tables::stack::Stack;
 use tables::table::BranchTable;
 
 // Tells a signed atom that follows from the branch.
-pub(crate) fn enforce<B: Book, T: BranchTable>(book: &B, table: &mut T, trail: &mut Stack<'_, u16>, choices: &Stack<'_, Choice>, classes: &mut ClassTable, l: SignedAtom) -> Pass
+pub(crate) fn enforce<B: Book, T: BranchTable>(
+    book: &B,
+    table: &mut T,
+    trail: &mut Stack<'_, u16>,
+    choices: &Stack<'_, Choice>,
+    classes: &mut ClassTable,
+    l: SignedAtom,
+) -> Pass
     requires ready { ⌜ Set B·Book (now book) (moment T·BranchTable (now table) (now trail) (now choices)) (now classes) ⌝ }
     requires below { ⌜ l .atom < atoms (B·Book .counts (now book)) ⌝ }
     requires lies { ⌜ OpenIn (T·BranchTable .marks (now table)) l ⌝ }
@@ -40,7 +47,15 @@ pub(crate) fn enforce<B: Book, T: BranchTable>(book: &B, table: &mut T, trail: &
 }
 
 // Tells what one instance forces.
-pub(crate) fn press<B: Book, T: BranchTable>(book: &B, table: &mut T, trail: &mut Stack<'_, u16>, choices: &Stack<'_, Choice>, classes: &mut ClassTable, i: usize, names: FourNames) -> Pass
+pub(crate) fn press<B: Book, T: BranchTable>(
+    book: &B,
+    table: &mut T,
+    trail: &mut Stack<'_, u16>,
+    choices: &Stack<'_, Choice>,
+    classes: &mut ClassTable,
+    i: usize,
+    names: FourNames,
+) -> Pass
     requires ready { ⌜ Set B·Book (now book) (moment T·BranchTable (now table) (now trail) (now choices)) (now classes) ⌝ }
     requires inside { ⌜ i < length (B·Book .clauses (now book)) ⌝ }
     requires below { ⌜ Below (B·Book .counts (now book)) names ⌝ }
@@ -62,7 +77,14 @@ pub(crate) fn pass_of(moved: bool) -> Pass
 }
 
 // Tells what the instances of clause i force.
-fn sweep_clause<B: Book, T: BranchTable>(book: &B, table: &mut T, trail: &mut Stack<'_, u16>, choices: &Stack<'_, Choice>, classes: &mut ClassTable, i: usize) -> Pass
+fn sweep_clause<B: Book, T: BranchTable>(
+    book: &B,
+    table: &mut T,
+    trail: &mut Stack<'_, u16>,
+    choices: &Stack<'_, Choice>,
+    classes: &mut ClassTable,
+    i: usize,
+) -> Pass
     requires ready { ⌜ Set B·Book (now book) (moment T·BranchTable (now table) (now trail) (now choices)) (now classes) ⌝ }
     requires inside { ⌜ i < length (B·Book .clauses (now book)) ⌝ }
     ensures passed { λ r. ⌜ Passes B·Book (now (book .entry)) (moment T·BranchTable (now (table .entry)) (now (trail .entry)) (now (choices .entry))) (moment T·BranchTable (now (table .exit)) (now (trail .exit)) (now (choices .entry))) r ⌝ }
@@ -71,7 +93,15 @@ fn sweep_clause<B: Book, T: BranchTable>(book: &B, table: &mut T, trail: &mut St
     let ranges = ranges(book, i);
     let mut moved = false;
     for k in 0..size(ranges) {
-        match press(book, table, trail, choices, classes, i, nth_names(ranges, k)) {
+        match press(
+            book,
+            table,
+            trail,
+            choices,
+            classes,
+            i,
+            nth_names(ranges, k),
+        ) {
             Pass::Moved => moved = true,
             Pass::Rest => {}
             Pass::Hopeless => return Pass::Hopeless,
@@ -81,7 +111,13 @@ fn sweep_clause<B: Book, T: BranchTable>(book: &B, table: &mut T, trail: &mut St
 }
 
 // Tells what the instances of every clause force.
-pub(crate) fn sweep<B: Book, T: BranchTable>(book: &B, table: &mut T, trail: &mut Stack<'_, u16>, choices: &Stack<'_, Choice>, classes: &mut ClassTable) -> Pass
+pub(crate) fn sweep<B: Book, T: BranchTable>(
+    book: &B,
+    table: &mut T,
+    trail: &mut Stack<'_, u16>,
+    choices: &Stack<'_, Choice>,
+    classes: &mut ClassTable,
+) -> Pass
     requires { ⌜ Set B·Book (now book) (moment T·BranchTable (now table) (now trail) (now choices)) (now classes) ⌝ }
     ensures passed { λ r. ⌜ Passes B·Book (now (book .entry)) (moment T·BranchTable (now (table .entry)) (now (trail .entry)) (now (choices .entry))) (moment T·BranchTable (now (table .exit)) (now (trail .exit)) (now (choices .entry))) r ⌝ }
     ensures fits { λ _. ⌜ Fits B·Book (now (book .entry)) (moment T·BranchTable (now (table .exit)) (now (trail .exit)) (now (choices .entry))) (now (classes .exit)) ⌝ }

@@ -3,7 +3,8 @@ ghost use Prim.Native.Nat.{ℕ, _<_, _≤_};
 ghost use lib.ListN.{length, getD};
 ghost use Rattle.syntax.specs.declared.types.Ground.the-variants.{Same};
 ghost use Rattle.semantics.specs.Branch.{mark-at, ClassTable as Classes};
-ghost use Rattle.classes.specs.Leaders.{Coarser, Joined, Leading, leader-in, leader-of, relabel};
+ghost use Rattle.classes.specs.Leaders.{leader-of};
+ghost use Rattle.classes.specs.Linking.{Coarser, Joined, Leading, leader-in, relabel};
 use crate::marks::mark_of;
 use crate::table::ClassTable;
 use syntax::counts::Counts;
@@ -93,6 +94,10 @@ impl ClassTable {
     pub fn leader(&self, name: u8) -> u8
         ensures { λ r. ⌜ r ≡ leader-of (now (self .entry)) name ⌝ }
     {
-        if name < 32 { self.leaders[name as usize] } else { 0 }
+        if name < 32 {
+            self.leaders[name as usize]
+        } else {
+            0
+        }
     }
 }

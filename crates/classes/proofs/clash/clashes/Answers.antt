@@ -27,7 +27,7 @@ returns g c =
     let t = c .args .classes .now in
     let near = small (c .args .counts) t in
     let by = last-part (c .args .counts) ms (leader-of t) near (c .relations-clash .result)
-        (not-from-decides (c .sames-clash .result) (c .sames-clash .ensures) (c .if-sames-clash .left))
-        (not-from-decides (c .properties-clash .result) (c .properties-clash .ensures) (c .if-properties-clash .left))
-        (c .relations-clash .ensures) in
+    (not-from-decides (c .sames-clash .result) (c .sames-clash .ensures) (c .if-sames-clash .left))
+    (not-from-decides (c .properties-clash .result) (c .properties-clash .ensures) (c .if-properties-clash .left))
+    (c .relations-clash .ensures) in
     record { by = by; clash = clash-too (c .args .counts) ms (leader-of t) near (c .relations-clash .result) by }

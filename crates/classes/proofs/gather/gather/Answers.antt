@@ -11,3 +11,6 @@ loop-x-again g c = (
   c .gather-row .ensures .only,
   below-more _ _ (λ x h y k e. c .gather-row .ensures .more _ (c .loop-x .inv .1 x h y k e)) (c .gather-row .ensures .all),
 )
+
+pub returns : need.returns
+returns g c = record { only = c .loop-x .inv .0; all = λ x h. c .loop-x .inv .1 x (omega arith) }

@@ -16,5 +16,5 @@ returns g c =
     let room : atoms (c .args .counts) ≤ length (c .args .memory .now) = omega arith in
     let (one, sames) = c .write-sames .ensures I (λ a b ha hb. refl) in
     let is = filled (c .args .counts) I (c .args .memory .now) (c .write-sames .last .memory) (c .write-properties .last .memory) (c .write-relations .last .memory)
-        one sames (c .write-properties .ensures .better) (c .write-properties .ensures .right) (c .write-relations .ensures .better) (c .write-relations .ensures .right) in
+    one sames (c .write-properties .ensures .better) (c .write-properties .ensures .right) (c .write-relations .ensures .better) (c .write-relations .ensures .right) in
     record { written = (room, is); model = own-bytes (c .args .counts) ms lead (c .args .memory .now) (c .write-relations .last .memory) room is }

@@ -9,5 +9,5 @@ returns g c =
     let ms = g .T·BranchTable .marks (c .args .table .now) in
     let t = c .args .classes .now in
     let written = c .write-rows .ensures (own (c .args .counts) ms (leader-of t))
-        (gathered-tells (c .args .counts) ms (leader-of t) (small (c .args .counts) t) (c .args .symbol) (c .gather .last .found) (c .gather .ensures)) in
+    (gathered-tells (c .args .counts) ms (leader-of t) (small (c .args .counts) t) (c .args .symbol) (c .gather .last .found) (c .gather .ensures)) in
     record { better = written .0; right = written .1 }

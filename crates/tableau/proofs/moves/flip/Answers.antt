@@ -14,7 +14,7 @@ put-requires g c κs =
     let choice = c .in-Some .choice in
     let before = items (c .pop .last .self) in
     let n = back-length (c .pre .state) before choice (p .popped) (t .marks (c .untell-to .last .table)) (e .marks) in
-    let f = same-frame (e .loan) (e .room) n (e .slots) (e .lent) (p .slots) (p .loan) in
+    let f = same-frame t (c .args .table .now) (c .untell-to .last .table) (c .args .trail .now) (c .untell-to .last .trail) (c .args .choices .now) (c .pop .last .self) (e .loan) (e .room) n (e .slots) (e .lent) (p .slots) (p .loan) in
     let b = back (c .pre .state) before choice (p .popped) {m′ = moment t (c .untell-to .last .table) (c .untell-to .last .trail) (c .pop .last .self)} (e .marks) (e .trail) refl f (c .pre .hopeless) in
     puttable (b .state) (flipped choice) (b .below) (b .lies)
 
@@ -26,7 +26,7 @@ returns-in-Some g c =
     let choice = c .in-Some .choice in
     let before = items (c .pop .last .self) in
     let n = back-length (c .pre .state) before choice (p .popped) (t .marks (c .untell-to .last .table)) (e .marks) in
-    let f = same-frame (e .loan) (e .room) n (e .slots) (e .lent) (p .slots) (p .loan) in
+    let f = same-frame t (c .args .table .now) (c .untell-to .last .table) (c .args .trail .now) (c .untell-to .last .trail) (c .args .choices .now) (c .pop .last .self) (e .loan) (e .room) n (e .slots) (e .lent) (p .slots) (p .loan) in
     let b = back (c .pre .state) before choice (p .popped) {m′ = moment t (c .untell-to .last .table) (c .untell-to .last .trail) (c .pop .last .self)} (e .marks) (e .trail) refl f (c .pre .hopeless) in
     let q = c .put .ensures (c .pop .last .self) in
     let ms = t .marks (c .untell-to .last .table) in
@@ -47,7 +47,7 @@ returns-in-None g c =
     let popped = c .in-None .ensures tt .popped in
     let off = all-off (c .pre .state) (t .marks (c .untell-to-in-None .last .table)) (e .marks) in
     record {
-      frame-is = same-frame (e .loan) (e .room) (off .1) (e .slots) (e .lent) (c .in-None .ensures tt .slots) (c .in-None .ensures tt .loan);
+      frame-is = same-frame t (c .args .table .now) (c .untell-to-in-None .last .table) (c .args .trail .now) (c .untell-to-in-None .last .trail) (c .args .choices .now) (c .pop .last .self) (e .loan) (e .room) (off .1) (e .slots) (e .lent) (c .in-None .ensures tt .slots) (c .in-None .ensures tt .loan);
       none = failed (c .pre .state) (popped .0) (c .pre .hopeless);
       clear = off .0;
     }

@@ -63,8 +63,8 @@ loop-l-again g c =
     let ins = instance (b .counts book) σ (getD (b .clauses book) (c .args .i) []) in
     let P : Status → Type 0 = λ v. Evaluated ms ins (take (j + 1) ins) v in
     elim (c .match-look .came) [
-      in-Denied w ↦ subst P (sym (w .status-is)) (more-denied ms ins j (s .0) x (s .1) (c .loop-l .status) (c .loop-l .inv) (w .in-Denied .ensures tt))
-    | in-Untold w ↦ subst P (sym (w .status-is ∙ w .opens-status .ensures)) (more-open ms ins j (s .0) x (s .1) (c .loop-l .status) (c .loop-l .inv) (w .in-Untold .ensures tt))
+      | in-Denied w ↦ subst P (sym (w .status-is)) (more-denied ms ins j (s .0) x (s .1) (c .loop-l .status) (c .loop-l .inv) (w .in-Denied .ensures tt))
+      | in-Untold w ↦ subst P (sym (w .status-is ∙ w .opens-status .ensures)) (more-open ms ins j (s .0) x (s .1) (c .loop-l .status) (c .loop-l .inv) (w .in-Untold .ensures tt))
     ]
 
 pub returns : need.returns

@@ -35,8 +35,8 @@ returns g c =
     let book = c .args .book .now in
     record {
       turned =
-        turned-on (b .counts book) (b .clauses book) (moment t (c .args .table .now) (c .args .trail .now) (c .args .choices .now))
-        (moment t (c .loop-l .table) (c .loop-l .trail) (c .loop-l .choices)) (moment t (c .flip .last .table) (c .flip .last .trail) (c .flip .last .choices)) Failed
-        (c .loop-l .inv .0) (c .in-rest .ensures tt);
+          turned-on (b .counts book) (b .clauses book) (moment t (c .args .table .now) (c .args .trail .now) (c .args .choices .now))
+          (moment t (c .loop-l .table) (c .loop-l .trail) (c .loop-l .choices)) (moment t (c .flip .last .table) (c .flip .last .trail) (c .flip .last .choices)) Failed
+          (c .loop-l .inv .0) (c .in-rest .ensures tt);
       fits = tt;
     }

@@ -24,9 +24,9 @@ returns-in-Done g c =
     let e = c .in-Done .ensures tt in
     record {
       decided =
-        turned-on (b .counts book) (b .clauses book) (moment t (c .args .table .now) (c .args .trail .now) (c .args .choices .now))
-        (moment t (c .loop .table) (c .loop .trail) (c .loop .choices)) (moment t (c .turn .last .table) (c .turn .last .trail) (c .turn .last .choices)) Done
-        (c .loop .inv .0) (e .turned);
+          turned-on (b .counts book) (b .clauses book) (moment t (c .args .table .now) (c .args .trail .now) (c .args .choices .now))
+          (moment t (c .loop .table) (c .loop .trail) (c .loop .choices)) (moment t (c .turn .last .table) (c .turn .last .trail) (c .turn .last .choices)) Done
+          (c .loop .inv .0) (e .turned);
       fits = λ _. e .fits;
     }
 
@@ -38,8 +38,8 @@ returns-in-Failed g c =
     let e = c .in-Failed .ensures tt in
     record {
       decided =
-        turned-on (b .counts book) (b .clauses book) (moment t (c .args .table .now) (c .args .trail .now) (c .args .choices .now))
-        (moment t (c .loop .table) (c .loop .trail) (c .loop .choices)) (moment t (c .turn .last .table) (c .turn .last .trail) (c .turn .last .choices)) Failed
-        (c .loop .inv .0) (e .turned);
+          turned-on (b .counts book) (b .clauses book) (moment t (c .args .table .now) (c .args .trail .now) (c .args .choices .now))
+          (moment t (c .loop .table) (c .loop .trail) (c .loop .choices)) (moment t (c .turn .last .table) (c .turn .last .trail) (c .turn .last .choices)) Failed
+          (c .loop .inv .0) (e .turned);
       fits = λ e. absurd (false≢true e);
     }

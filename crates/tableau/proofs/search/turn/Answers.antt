@@ -10,9 +10,9 @@ returns-in-Rest g c =
     let e = c .decide-on .ensures in
     record {
       turned =
-        turned-on (b .counts book) (b .clauses book) (moment t (c .args .table .now) (c .args .trail .now) (c .args .choices .now))
-        (moment t (c .sweep .last .table) (c .sweep .last .trail) (c .args .choices .now)) (moment t (c .decide-on .last .table) (c .decide-on .last .trail) (c .decide-on .last .choices)) (c .decide-on .result)
-        (c .in-Rest .ensures tt .passed .0) (e .turned);
+          turned-on (b .counts book) (b .clauses book) (moment t (c .args .table .now) (c .args .trail .now) (c .args .choices .now))
+          (moment t (c .sweep .last .table) (c .sweep .last .trail) (c .args .choices .now)) (moment t (c .decide-on .last .table) (c .decide-on .last .trail) (c .decide-on .last .choices)) (c .decide-on .result)
+          (c .in-Rest .ensures tt .passed .0) (e .turned);
       fits = e .fits;
     }
 
@@ -24,8 +24,8 @@ returns-in-Hopeless g c =
     let e = c .backtrack .ensures in
     record {
       turned =
-        turned-on (b .counts book) (b .clauses book) (moment t (c .args .table .now) (c .args .trail .now) (c .args .choices .now))
-        (moment t (c .sweep .last .table) (c .sweep .last .trail) (c .args .choices .now)) (moment t (c .backtrack .last .table) (c .backtrack .last .trail) (c .backtrack .last .choices)) (c .backtrack .result)
-        (c .in-Hopeless .ensures tt .passed .0) (e .turned);
+          turned-on (b .counts book) (b .clauses book) (moment t (c .args .table .now) (c .args .trail .now) (c .args .choices .now))
+          (moment t (c .sweep .last .table) (c .sweep .last .trail) (c .args .choices .now)) (moment t (c .backtrack .last .table) (c .backtrack .last .trail) (c .backtrack .last .choices)) (c .backtrack .result)
+          (c .in-Hopeless .ensures tt .passed .0) (e .turned);
       fits = e .fits;
     }

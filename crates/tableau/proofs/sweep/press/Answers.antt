@@ -25,8 +25,8 @@ returns-in-Broken g c =
       passed = (
         steady-here (c .pre .ready .state),
         no-model (g .T·BranchTable .marks (c .args .table .now)) (instance (b .counts book) (names-of n) (getD (b .clauses book) (c .args .i) []))
-        (satisfied (b .counts book) (b .clauses book) (b .lawful book) (c .args .i) (c .pre .inside) (names-of n) (assigns-below (b .counts book) n (c .pre .below)))
-        (c .in-Broken .ensures tt),
+            (satisfied (b .counts book) (b .clauses book) (b .lawful book) (c .args .i) (c .pre .inside) (names-of n) (assigns-below (b .counts book) n (c .pre .below)))
+            (c .in-Broken .ensures tt),
       );
       fits = c .pre .ready .fits;
     }
@@ -43,6 +43,6 @@ enforce-requires g c κs =
       below = atom-below (b .counts book) (b .clauses book) (b .lawful book) (c .args .i) (c .pre .inside) (names-of n) assigns (c .in-Forced .l) (s .1);
       lies = s .0;
       follows =
-        entails (g .T·BranchTable .marks (c .args .table .now)) (instance (b .counts book) (names-of n) (getD (b .clauses book) (c .args .i) []))
-        (satisfied (b .counts book) (b .clauses book) (b .lawful book) (c .args .i) (c .pre .inside) (names-of n) assigns) (c .in-Forced .l) (s .2);
+          entails (g .T·BranchTable .marks (c .args .table .now)) (instance (b .counts book) (names-of n) (getD (b .clauses book) (c .args .i) []))
+          (satisfied (b .counts book) (b .clauses book) (b .lawful book) (c .args .i) (c .pre .inside) (names-of n) assigns) (c .in-Forced .l) (s .2);
     }

@@ -30,11 +30,11 @@ loop-l-again c =
     let t = ground-is (c .args .counts) (getD (c .args .literals .now) (c .loop-l .l-index) blank) _ (c .is-ground-literal .ensures) in
     elim (c .if-is-ground-literal .came) [
       | then-is-ground-literal·else-left-eq0 w ↦
-        ap (nth (kept-by p (drop (i + 1) xs))) (w .left-is) ∙ sym (nth-next _ (kept-by p (drop (i + 1) xs)) (c .loop-l .left) (omega (arith, w .if-left-eq0 .left))) ∙
-        ap (λ zs. nth zs (c .loop-l .left)) (sym (pass-yes p xs i blank h (t ∙ w .if-is-ground-literal .taken))) ∙ c .loop-l .inv
+          ap (nth (kept-by p (drop (i + 1) xs))) (w .left-is) ∙ sym (nth-next _ (kept-by p (drop (i + 1) xs)) (c .loop-l .left) (omega (arith, w .if-left-eq0 .left))) ∙
+          ap (λ zs. nth zs (c .loop-l .left)) (sym (pass-yes p xs i blank h (t ∙ w .if-is-ground-literal .taken))) ∙ c .loop-l .inv
       | else-is-ground-literal w ↦
-        ap (nth (kept-by p (drop (i + 1) xs))) (w .left-is) ∙
-        ap (λ zs. nth zs (c .loop-l .left)) (sym (pass-no p xs i blank h (t ∙ w .if-is-ground-literal .left))) ∙ c .loop-l .inv
+          ap (nth (kept-by p (drop (i + 1) xs))) (w .left-is) ∙
+          ap (λ zs. nth zs (c .loop-l .left)) (sym (pass-no p xs i blank h (t ∙ w .if-is-ground-literal .left))) ∙ c .loop-l .inv
     ]
 
 pub returns : need.returns

@@ -2,7 +2,7 @@ use mathlib.Core.Path.{_≡_}
 use mathlib.Core.Bool.{cond}
 use Prim.Native.Nat.{ℕ, _<_, _≤_}
 use lib.Dec.{eqb}
-use Rattle.classes.specs.Leaders.{leader-in}
+use Rattle.classes.specs.Linking.{leader-in}
 use Rattle.classes.proofs.table.linking.join.Given as given
 
 abbrev pub Inv-loop-leader : given.InvT-loop-leader

@@ -1,5 +1,5 @@
 use Prim.Native.Nat.{ℕ, _<_}
-use Rattle.classes.specs.Leaders.{Joined, Leading}
+use Rattle.classes.specs.Linking.{Joined, Leading}
 use Rattle.classes.proofs.table.linking.join_all.Given as given
 
 abbrev pub Inv-loop-a : given.InvT-loop-a

@@ -1,4 +1,4 @@
-use Rattle.classes.specs.Leaders.{Coarser, Joined, Leading}
+use Rattle.classes.specs.Linking.{Coarser, Joined, Leading}
 use Rattle.classes.proofs.table.linking.join_row.Given as given
 
 abbrev pub Inv-loop-b : given.InvT-loop-b
