@@ -24,7 +24,7 @@ use Rattle.tables.specs.Marks.{signed}
 use Rattle.tableau.proofs.States.{put-back}
 
 -- a model's valuation that agrees with the marks: the model agrees with the branch
-says-so : (m : Mark) (a s : Bool) → Says m a → m ≡ signed-so s → a ≡ s
+pub says-so : (m : Mark) (a s : Bool) → Says m a → m ≡ signed-so s → a ≡ s
 says-so Yes a true h e = h
 says-so No a false h e = h
 says-so Yes a false h e = grind arith

@@ -1,7 +1,9 @@
 // Follows the trail: tells what each atom on it forces.
 ghost use Rattle.tableau.specs.Views.{moment, Set, Fits, Passes};
 use crate::sweep::pass_of;
+use crate::sweep::sweep;
 use crate::touch::touch;
+use crate::types::Hints;
 use crate::types::Pass;
 use books::book::Book;
 use classes::table::ClassTable;
@@ -29,7 +31,7 @@ fn follow<B: Book, T: BranchTable>(book: &B, table: &mut T, trail: &mut Stack<'_
 }
 
 // Tells what the atoms on the trail from a height on force, and what those told force, and so on.
-pub(crate) fn pursue<B: Book, T: BranchTable>(book: &B, table: &mut T, trail: &mut Stack<'_, u16>, choices: &Stack<'_, Choice>, classes: &mut ClassTable, from: usize) -> Pass
+fn pursue<B: Book, T: BranchTable>(book: &B, table: &mut T, trail: &mut Stack<'_, u16>, choices: &Stack<'_, Choice>, classes: &mut ClassTable, from: usize) -> Pass
     requires { ⌜ Set B·Book (now book) (moment T·BranchTable (now table) (now trail) (now choices)) (now classes) ⌝ }
     ensures passed { λ r. ⌜ Passes B·Book (now (book .entry)) (moment T·BranchTable (now (table .entry)) (now (trail .entry)) (now (choices .entry))) (moment T·BranchTable (now (table .exit)) (now (trail .exit)) (now (choices .entry))) r ⌝ }
     ensures fits { λ _. ⌜ Fits B·Book (now (book .entry)) (moment T·BranchTable (now (table .exit)) (now (trail .exit)) (now (choices .entry))) (now (classes .exit)) ⌝ }
@@ -45,4 +47,20 @@ pub(crate) fn pursue<B: Book, T: BranchTable>(book: &B, table: &mut T, trail: &m
         at += 1;
     }
     pass_of(moved)
+}
+
+// Tells what is forced, from where the hints say.
+pub(crate) fn propagate<B: Book, T: BranchTable>(book: &B, table: &mut T, trail: &mut Stack<'_, u16>, choices: &Stack<'_, Choice>, classes: &mut ClassTable, hints: &mut Hints) -> Pass
+    requires { ⌜ Set B·Book (now book) (moment T·BranchTable (now table) (now trail) (now choices)) (now classes) ⌝ }
+    ensures passed { λ r. ⌜ Passes B·Book (now (book .entry)) (moment T·BranchTable (now (table .entry)) (now (trail .entry)) (now (choices .entry))) (moment T·BranchTable (now (table .exit)) (now (trail .exit)) (now (choices .entry))) r ⌝ }
+    ensures fits { λ _. ⌜ Fits B·Book (now (book .entry)) (moment T·BranchTable (now (table .exit)) (now (trail .exit)) (now (choices .entry))) (now (classes .exit)) ⌝ }
+{
+    if !hints.swept {
+        hints.swept = true;
+        return sweep(book, table, trail, choices, classes);
+    }
+    let from = hints.pursued;
+    let pass = pursue(book, table, trail, choices, classes, from);
+    hints.pursued = trail.height();
+    pass
 }

@@ -3,11 +3,12 @@ ghost use mathlib.Core.Path.{_≡_};
 ghost use Prim.Native.Nat.{_<_, _≤_};
 ghost use lib.ListN.{length};
 ghost use Rattle.syntax.specs.Numbers.{atoms};
-ghost use Rattle.tableau.specs.Scans.{Surveyed, Clause-surveyed};
+ghost use Rattle.tableau.specs.Scans.{Surveyed, Surveyed-from, Clause-surveyed};
 use crate::ranges::nth_names;
 use crate::ranges::ranges;
 use crate::ranges::size;
 use crate::scan::evaluate;
+use crate::types::Hints;
 use crate::types::Status;
 use crate::types::Survey;
 use books::book::Book;
@@ -31,12 +32,18 @@ fn survey_clause<B: Book, T: BranchTable>(book: &B, table: &T, i: usize) -> Surv
     Survey::Fulfilled
 }
 
-// Among all instances.
-pub(crate) fn survey<B: Book, T: BranchTable>(book: &B, table: &T) -> Survey
+// Among the instances of the clauses from a given one on. The hint tells where it stopped.
+fn survey_from<B: Book, T: BranchTable>(
+    book: &B,
+    table: &T,
+    hints: &mut Hints,
+    from: usize,
+) -> Survey
     requires { ⌜ atoms (B·Book .counts (now book)) ≤ length (T·BranchTable .marks (now table)) ⌝ }
-    ensures { λ r. ⌜ Surveyed (B·Book .counts (now (book .entry))) (B·Book .clauses (now (book .entry))) (T·BranchTable .marks (now (table .entry))) r ⌝ }
+    ensures { λ r. ⌜ Surveyed-from (B·Book .counts (now (book .entry))) (B·Book .clauses (now (book .entry))) (T·BranchTable .marks (now (table .entry))) from r ⌝ }
 {
-    for i in 0..book.len() {
+    for i in from..book.len() {
+        hints.surveyed = i;
         match survey_clause(book, table, i) {
             Survey::Fulfilled => {}
             Survey::Broken => return Survey::Broken,
@@ -44,4 +51,20 @@ pub(crate) fn survey<B: Book, T: BranchTable>(book: &B, table: &T) -> Survey
         }
     }
     Survey::Fulfilled
+}
+
+// Among all instances, first from where the hint says.
+pub(crate) fn survey<B: Book, T: BranchTable>(book: &B, table: &T, hints: &mut Hints) -> Survey
+    requires { ⌜ atoms (B·Book .counts (now book)) ≤ length (T·BranchTable .marks (now table)) ⌝ }
+    ensures { λ r. ⌜ Surveyed (B·Book .counts (now (book .entry))) (B·Book .clauses (now (book .entry))) (T·BranchTable .marks (now (table .entry))) r ⌝ }
+{
+    let from = hints.surveyed;
+    if from > 0 {
+        match survey_from(book, table, hints, from) {
+            Survey::Fulfilled => {}
+            Survey::Broken => return Survey::Broken,
+            Survey::Split(l) => return Survey::Split(l),
+        }
+    }
+    survey_from(book, table, hints, 0)
 }

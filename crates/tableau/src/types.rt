@@ -83,3 +83,14 @@ pub(crate) struct Spans {
     pub(crate) z: Span,
     pub(crate) w: Span,
 }
+
+// Where the search goes on. Nothing rests on it: whatever it says, the search is right.
+#[derive(Clone, Copy)]
+pub(crate) struct Hints {
+    // whether what is forced where nothing stands was told
+    pub(crate) swept: bool,
+    // the trail was followed up to here
+    pub(crate) pursued: usize,
+    // the clauses before this one were fulfilled when last looked at
+    pub(crate) surveyed: usize,
+}
