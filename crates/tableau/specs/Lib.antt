@@ -6,3 +6,4 @@ pub mod Scans
 pub mod Turns
 pub mod Views
 pub mod Spans
+pub mod Variants

@@ -11,4 +11,5 @@ pub(crate) mod survey;
 pub(crate) mod sweep;
 pub(crate) mod touch;
 pub(crate) mod types;
+pub(crate) mod variants;
 pub mod verdict;

@@ -5,6 +5,7 @@ use crate::sweep::sweep;
 use crate::touch::touch;
 use crate::types::Hints;
 use crate::types::Pass;
+use crate::variants::spread;
 use books::book::Book;
 use classes::table::ClassTable;
 use syntax::numbers::atom_at;
@@ -14,7 +15,14 @@ use tables::stack::Stack;
 use tables::table::BranchTable;
 
 // Tells what an atom that stands forces.
-fn follow<B: Book, T: BranchTable>(book: &B, table: &mut T, trail: &mut Stack<'_, u16>, choices: &Stack<'_, Choice>, classes: &mut ClassTable, atom: u16) -> Pass
+fn follow<B: Book, T: BranchTable>(
+    book: &B,
+    table: &mut T,
+    trail: &mut Stack<'_, u16>,
+    choices: &Stack<'_, Choice>,
+    classes: &mut ClassTable,
+    atom: u16,
+) -> Pass
     requires { ⌜ Set B·Book (now book) (moment T·BranchTable (now table) (now trail) (now choices)) (now classes) ⌝ }
     ensures passed { λ r. ⌜ Passes B·Book (now (book .entry)) (moment T·BranchTable (now (table .entry)) (now (trail .entry)) (now (choices .entry))) (moment T·BranchTable (now (table .exit)) (now (trail .exit)) (now (choices .entry))) r ⌝ }
     ensures fits { λ _. ⌜ Fits B·Book (now (book .entry)) (moment T·BranchTable (now (table .exit)) (now (trail .exit)) (now (choices .entry))) (now (classes .exit)) ⌝ }
@@ -31,7 +39,14 @@ fn follow<B: Book, T: BranchTable>(book: &B, table: &mut T, trail: &mut Stack<'_
 }
 
 // Tells what the atoms on the trail from a height on force, and what those told force, and so on.
-fn pursue<B: Book, T: BranchTable>(book: &B, table: &mut T, trail: &mut Stack<'_, u16>, choices: &Stack<'_, Choice>, classes: &mut ClassTable, from: usize) -> Pass
+fn pursue<B: Book, T: BranchTable>(
+    book: &B,
+    table: &mut T,
+    trail: &mut Stack<'_, u16>,
+    choices: &Stack<'_, Choice>,
+    classes: &mut ClassTable,
+    from: usize,
+) -> Pass
     requires { ⌜ Set B·Book (now book) (moment T·BranchTable (now table) (now trail) (now choices)) (now classes) ⌝ }
     ensures passed { λ r. ⌜ Passes B·Book (now (book .entry)) (moment T·BranchTable (now (table .entry)) (now (trail .entry)) (now (choices .entry))) (moment T·BranchTable (now (table .exit)) (now (trail .exit)) (now (choices .entry))) r ⌝ }
     ensures fits { λ _. ⌜ Fits B·Book (now (book .entry)) (moment T·BranchTable (now (table .exit)) (now (trail .exit)) (now (choices .entry))) (now (classes .exit)) ⌝ }
@@ -50,7 +65,14 @@ fn pursue<B: Book, T: BranchTable>(book: &B, table: &mut T, trail: &mut Stack<'_
 }
 
 // Tells what is forced, from where the hints say.
-pub(crate) fn propagate<B: Book, T: BranchTable>(book: &B, table: &mut T, trail: &mut Stack<'_, u16>, choices: &Stack<'_, Choice>, classes: &mut ClassTable, hints: &mut Hints) -> Pass
+pub(crate) fn propagate<B: Book, T: BranchTable>(
+    book: &B,
+    table: &mut T,
+    trail: &mut Stack<'_, u16>,
+    choices: &Stack<'_, Choice>,
+    classes: &mut ClassTable,
+    hints: &mut Hints,
+) -> Pass
     requires { ⌜ Set B·Book (now book) (moment T·BranchTable (now table) (now trail) (now choices)) (now classes) ⌝ }
     ensures passed { λ r. ⌜ Passes B·Book (now (book .entry)) (moment T·BranchTable (now (table .entry)) (now (trail .entry)) (now (choices .entry))) (moment T·BranchTable (now (table .exit)) (now (trail .exit)) (now (choices .entry))) r ⌝ }
     ensures fits { λ _. ⌜ Fits B·Book (now (book .entry)) (moment T·BranchTable (now (table .exit)) (now (trail .exit)) (now (choices .entry))) (now (classes .exit)) ⌝ }
@@ -62,5 +84,9 @@ pub(crate) fn propagate<B: Book, T: BranchTable>(book: &B, table: &mut T, trail:
     let from = hints.pursued;
     let pass = pursue(book, table, trail, choices, classes, from);
     hints.pursued = trail.height();
-    pass
+    match pass {
+        Pass::Moved => Pass::Moved,
+        Pass::Rest => spread(book, table, trail, choices, classes, hints),
+        Pass::Hopeless => Pass::Hopeless,
+    }
 }

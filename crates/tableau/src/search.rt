@@ -70,6 +70,10 @@ fn below_top(height: usize) -> usize {
     if height > 0 { height - 1 } else { 0 }
 }
 
+fn lower(a: usize, b: usize) -> usize {
+    if a < b { a } else { b }
+}
+
 // The same. The trail is then to be followed from its top, and each clause to be looked at.
 fn retreat<B: Book, T: BranchTable>(
     book: &B,
@@ -85,7 +89,9 @@ fn retreat<B: Book, T: BranchTable>(
     ensures fits { λ r. ⌜ Fits-when B·Book (now (book .entry)) (moment T·BranchTable (now (table .exit)) (now (trail .exit)) (now (choices .exit))) (now (classes .exit)) r ⌝ }
 {
     let outcome = backtrack(book, table, trail, choices, classes);
-    hints.pursued = below_top(trail.height());
+    let top = below_top(trail.height());
+    hints.pursued = top;
+    hints.spread = lower(hints.spread, top);
     hints.surveyed = 0;
     outcome
 }
@@ -152,6 +158,8 @@ pub(crate) fn decide<B: Book, T: BranchTable>(
         swept: false,
         pursued: 0,
         surveyed: 0,
+        spread: 0,
+        classes: 0,
     };
     loop {
         match turn(book, table, trail, choices, classes, &mut hints) {

@@ -19,7 +19,14 @@ fn bind_variable(counts: Counts, span: Span, name: u8) -> Option<Span>
     requires { ⌜ InSpan counts span ⌝ }
     ensures { λ r. ⌜ SpanIf counts r ⌝ }
 {
-    if span.first <= name && name - span.first < span.count { Some(Span { first: name, count: 1 }) } else { None }
+    if span.first <= name && name - span.first < span.count {
+        Some(Span {
+            first: name,
+            count: 1,
+        })
+    } else {
+        None
+    }
 }
 
 // Binds a term to a name: a name only to itself, and a variable that is bound only to the same name again.
@@ -29,7 +36,9 @@ fn bind_term(counts: Counts, spans: Spans, term: Term, name: u8) -> Option<Spans
 {
     let mut bound = spans;
     match term {
-        Term::Name(a) => if a != name { return None; },
+        Term::Name(a) => if a != name {
+            return None;
+        },
         Term::Var(0) => bound.x = bind_variable(counts, spans.x, name)?,
         Term::Var(1) => bound.y = bind_variable(counts, spans.y, name)?,
         Term::Var(2) => bound.z = bind_variable(counts, spans.z, name)?,
@@ -42,8 +51,16 @@ fn bind_term(counts: Counts, spans: Spans, term: Term, name: u8) -> Option<Spans
 fn all_names(counts: Counts) -> Spans
     ensures { λ r. ⌜ InSpans counts r ⌝ }
 {
-    let all = Span { first: 0, count: counts.names() };
-    Spans { x: all, y: all, z: all, w: all }
+    let all = Span {
+        first: 0,
+        count: counts.names(),
+    };
+    Spans {
+        x: all,
+        y: all,
+        z: all,
+        w: all,
+    }
 }
 
 fn bind_two(counts: Counts, t: Term, a: u8, u: Term, b: u8) -> Option<Spans>
@@ -59,8 +76,16 @@ pub(crate) fn bind(counts: Counts, atom: Atom, g: Ground) -> Option<Spans>
 {
     match (atom, g) {
         (Atom::Same(t, u), Ground::Same(a, b)) => bind_two(counts, t, a, u, b),
-        (Atom::Prop(p, t), Ground::Prop(q, a)) => if p == q { bind_term(counts, all_names(counts), t, a) } else { None },
-        (Atom::Rel(r, t, u), Ground::Rel(s, a, b)) => if r == s { bind_two(counts, t, a, u, b) } else { None },
+        (Atom::Prop(p, t), Ground::Prop(q, a)) => if p == q {
+            bind_term(counts, all_names(counts), t, a)
+        } else {
+            None
+        },
+        (Atom::Rel(r, t, u), Ground::Rel(s, a, b)) => if r == s {
+            bind_two(counts, t, a, u, b)
+        } else {
+            None
+        },
         _ => None,
     }
 }
@@ -69,7 +94,11 @@ fn lower(range: usize, count: u8) -> usize
     requires { ⌜ 1 ≤ range ⌝ ∗ ⌜ 1 ≤ count ⌝ }
     ensures { λ r. ⌜ 1 ≤ r ⌝ ∗ ⌜ r ≤ range ⌝ ∗ ⌜ r ≤ count ⌝ }
 {
-    if range < count as usize { range } else { count as usize }
+    if range < count as usize {
+        range
+    } else {
+        count as usize
+    }
 }
 
 // How many names each variable of clause i still runs through.
@@ -78,7 +107,12 @@ pub(crate) fn ranges_in<B: Book>(book: &B, i: usize, spans: Spans) -> Ranges
     ensures { λ r. ⌜ Runs spans r ⌝ }
 {
     let all = ranges(book, i);
-    Ranges { x: lower(all.x, spans.x.count), y: lower(all.y, spans.y.count), z: lower(all.z, spans.z.count), w: lower(all.w, spans.w.count) }
+    Ranges {
+        x: lower(all.x, spans.x.count),
+        y: lower(all.y, spans.y.count),
+        z: lower(all.z, spans.z.count),
+        w: lower(all.w, spans.w.count),
+    }
 }
 
 // The k-th assignment of the variables.
@@ -89,5 +123,10 @@ pub(crate) fn nth_in(counts: Counts, spans: Spans, ranges: Ranges, k: usize) -> 
     ensures { λ r. ⌜ Below counts r ⌝ }
 {
     let n = nth_names(ranges, k);
-    FourNames { x: spans.x.first + n.x, y: spans.y.first + n.y, z: spans.z.first + n.z, w: spans.w.first + n.w }
+    FourNames {
+        x: spans.x.first + n.x,
+        y: spans.y.first + n.y,
+        z: spans.z.first + n.z,
+        w: spans.w.first + n.w,
+    }
 }

@@ -20,7 +20,15 @@ use tables::stack::Stack;
 use tables::table::BranchTable;
 
 // In the instances of clause i under the assignments of the spans.
-fn touch_spans<B: Book, T: BranchTable>(book: &B, table: &mut T, trail: &mut Stack<'_, u16>, choices: &Stack<'_, Choice>, classes: &mut ClassTable, i: usize, spans: Spans) -> Pass
+fn touch_spans<B: Book, T: BranchTable>(
+    book: &B,
+    table: &mut T,
+    trail: &mut Stack<'_, u16>,
+    choices: &Stack<'_, Choice>,
+    classes: &mut ClassTable,
+    i: usize,
+    spans: Spans,
+) -> Pass
     requires ready { ⌜ Set B·Book (now book) (moment T·BranchTable (now table) (now trail) (now choices)) (now classes) ⌝ }
     requires inside { ⌜ i < length (B·Book .clauses (now book)) ⌝ }
     requires spans { ⌜ InSpans (B·Book .counts (now book)) spans ⌝ }
@@ -31,7 +39,15 @@ fn touch_spans<B: Book, T: BranchTable>(book: &B, table: &mut T, trail: &mut Sta
     let ranges = ranges_in(book, i, spans);
     let mut moved = false;
     for k in 0..size(ranges) {
-        match press(book, table, trail, choices, classes, i, nth_in(counts, spans, ranges, k)) {
+        match press(
+            book,
+            table,
+            trail,
+            choices,
+            classes,
+            i,
+            nth_in(counts, spans, ranges, k),
+        ) {
             Pass::Moved => moved = true,
             Pass::Rest => {}
             Pass::Hopeless => return Pass::Hopeless,
@@ -41,7 +57,17 @@ fn touch_spans<B: Book, T: BranchTable>(book: &B, table: &mut T, trail: &mut Sta
 }
 
 // In the instances of clause i where the mark of the ground atom denies the literal l.
-fn touch_literal<B: Book, T: BranchTable>(book: &B, table: &mut T, trail: &mut Stack<'_, u16>, choices: &Stack<'_, Choice>, classes: &mut ClassTable, i: usize, l: Literal, g: Ground, sign: bool) -> Pass
+fn touch_literal<B: Book, T: BranchTable>(
+    book: &B,
+    table: &mut T,
+    trail: &mut Stack<'_, u16>,
+    choices: &Stack<'_, Choice>,
+    classes: &mut ClassTable,
+    i: usize,
+    l: Literal,
+    g: Ground,
+    sign: bool,
+) -> Pass
     requires ready { ⌜ Set B·Book (now book) (moment T·BranchTable (now table) (now trail) (now choices)) (now classes) ⌝ }
     requires inside { ⌜ i < length (B·Book .clauses (now book)) ⌝ }
     ensures passed { λ r. ⌜ Passes B·Book (now (book .entry)) (moment T·BranchTable (now (table .entry)) (now (trail .entry)) (now (choices .entry))) (moment T·BranchTable (now (table .exit)) (now (trail .exit)) (now (choices .entry))) r ⌝ }
@@ -57,7 +83,16 @@ fn touch_literal<B: Book, T: BranchTable>(book: &B, table: &mut T, trail: &mut S
 }
 
 // In the instances of clause i.
-fn touch_clause<B: Book, T: BranchTable>(book: &B, table: &mut T, trail: &mut Stack<'_, u16>, choices: &Stack<'_, Choice>, classes: &mut ClassTable, i: usize, g: Ground, sign: bool) -> Pass
+fn touch_clause<B: Book, T: BranchTable>(
+    book: &B,
+    table: &mut T,
+    trail: &mut Stack<'_, u16>,
+    choices: &Stack<'_, Choice>,
+    classes: &mut ClassTable,
+    i: usize,
+    g: Ground,
+    sign: bool,
+) -> Pass
     requires { ⌜ Set B·Book (now book) (moment T·BranchTable (now table) (now trail) (now choices)) (now classes) ⌝ }
     ensures passed { λ r. ⌜ Passes B·Book (now (book .entry)) (moment T·BranchTable (now (table .entry)) (now (trail .entry)) (now (choices .entry))) (moment T·BranchTable (now (table .exit)) (now (trail .exit)) (now (choices .entry))) r ⌝ }
     ensures fits { λ _. ⌜ Fits B·Book (now (book .entry)) (moment T·BranchTable (now (table .exit)) (now (trail .exit)) (now (choices .entry))) (now (classes .exit)) ⌝ }
@@ -76,7 +111,15 @@ fn touch_clause<B: Book, T: BranchTable>(book: &B, table: &mut T, trail: &mut St
 }
 
 // In the instances of every clause.
-pub(crate) fn touch<B: Book, T: BranchTable>(book: &B, table: &mut T, trail: &mut Stack<'_, u16>, choices: &Stack<'_, Choice>, classes: &mut ClassTable, g: Ground, sign: bool) -> Pass
+pub(crate) fn touch<B: Book, T: BranchTable>(
+    book: &B,
+    table: &mut T,
+    trail: &mut Stack<'_, u16>,
+    choices: &Stack<'_, Choice>,
+    classes: &mut ClassTable,
+    g: Ground,
+    sign: bool,
+) -> Pass
     requires { ⌜ Set B·Book (now book) (moment T·BranchTable (now table) (now trail) (now choices)) (now classes) ⌝ }
     ensures passed { λ r. ⌜ Passes B·Book (now (book .entry)) (moment T·BranchTable (now (table .entry)) (now (trail .entry)) (now (choices .entry))) (moment T·BranchTable (now (table .exit)) (now (trail .exit)) (now (choices .entry))) r ⌝ }
     ensures fits { λ _. ⌜ Fits B·Book (now (book .entry)) (moment T·BranchTable (now (table .exit)) (now (trail .exit)) (now (choices .entry))) (now (classes .exit)) ⌝ }

@@ -52,12 +52,12 @@ loop-l-again g c =
     let m″ = moment t (c .touch-literal .last .table) (c .touch-literal .last .trail) (c .args .choices .now) in
     let P : Bool → Type 0 = λ v. Gone (b .counts book) (b .clauses book) m m″ v in
     elim (c .match-touch-literal .came) [
-      in-Moved w ↦
-        let e = w .in-Moved .ensures tt in
-        (subst P (sym (w .moved-is)) (lighter-on (gone-steady (b .counts book) (b .clauses book) m m′ (c .loop-l .moved) (c .loop-l .inv .0)) (e .passed .0)), record { state = e .passed .0 .state; calm = e .passed .1; fits = e .fits })
-    | in-Rest w ↦
-        let e = w .in-Rest .ensures tt in
-        (subst P (sym (w .moved-is)) (gone-rest (b .counts book) (b .clauses book) m m′ m″ (c .loop-l .moved) (c .loop-l .inv .0) (e .passed .0)), record { state = e .passed .0 .state; calm = e .passed .1; fits = e .fits })
+      | in-Moved w ↦
+          let e = w .in-Moved .ensures tt in
+          (subst P (sym (w .moved-is)) (lighter-on (gone-steady (b .counts book) (b .clauses book) m m′ (c .loop-l .moved) (c .loop-l .inv .0)) (e .passed .0)), record { state = e .passed .0 .state; calm = e .passed .1; fits = e .fits })
+      | in-Rest w ↦
+          let e = w .in-Rest .ensures tt in
+          (subst P (sym (w .moved-is)) (gone-rest (b .counts book) (b .clauses book) m m′ m″ (c .loop-l .moved) (c .loop-l .inv .0) (e .passed .0)), record { state = e .passed .0 .state; calm = e .passed .1; fits = e .fits })
     ]
 
 pub returns : need.returns
