@@ -119,3 +119,9 @@ pub surveyed-whole : (c : Counts) (clauses : List Clause) (marks : Branch) → A
 surveyed-whole c clauses marks lawful survey.Fulfilled h = fulfilled c clauses marks lawful (λ i lt. h i lt (omega arith))
 surveyed-whole c clauses marks lawful survey.Broken h = h
 surveyed-whole c clauses marks lawful (survey.Split l) h = h
+
+-- and of none
+pub surveyed-less : (c : Counts) (clauses : List Clause) (marks : Branch) (n : ℕ) (r : Survey) → Surveyed-from c clauses marks n r → Surveyed-from c clauses marks (length clauses) r
+surveyed-less c clauses marks n survey.Fulfilled h = λ i lt le. absurd (omega arith)
+surveyed-less c clauses marks n survey.Broken h = h
+surveyed-less c clauses marks n (survey.Split l) h = h

@@ -57,12 +57,12 @@ Surveyed c clauses ms survey.Fulfilled = AllFulfilled c clauses ms
 Surveyed c clauses ms survey.Broken = NoModel (Modelled c clauses) ms
 Surveyed c clauses ms (survey.Split l) = (l .atom < atoms c) × OpenIn ms l
 
--- the same of one clause: every instance is fulfilled at its own variables
-abbrev pub Clause-surveyed : Counts → List Clause → List Mark → ℕ → Survey → Type 0
-Clause-surveyed c clauses ms i survey.Fulfilled =
-    (k : ℕ) → k < size (ranges c (getD clauses i [])) → Some-of (StandsIn ms) (instance c (names-of (nth-names (ranges c (getD clauses i [])) k)) (getD clauses i []))
-Clause-surveyed c clauses ms i survey.Broken = NoModel (Modelled c clauses) ms
-Clause-surveyed c clauses ms i (survey.Split l) = (l .atom < atoms c) × OpenIn ms l
+-- the same of one clause: every instance from one on is fulfilled at its own variables
+abbrev pub Clause-surveyed : Counts → List Clause → List Mark → ℕ → ℕ → Survey → Type 0
+Clause-surveyed c clauses ms i first survey.Fulfilled =
+    (k : ℕ) → k < size (ranges c (getD clauses i [])) → first ≤ k → Some-of (StandsIn ms) (instance c (names-of (nth-names (ranges c (getD clauses i [])) k)) (getD clauses i []))
+Clause-surveyed c clauses ms i first survey.Broken = NoModel (Modelled c clauses) ms
+Clause-surveyed c clauses ms i first (survey.Split l) = (l .atom < atoms c) × OpenIn ms l
 
 -- and of the clauses from one on
 abbrev pub Surveyed-from : Counts → List Clause → List Mark → ℕ → Survey → Type 0

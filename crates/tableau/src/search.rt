@@ -93,6 +93,7 @@ fn retreat<B: Book, T: BranchTable>(
     hints.pursued = top;
     hints.spread = lower(hints.spread, top);
     hints.surveyed = 0;
+    hints.instance = 0;
     outcome
 }
 
@@ -158,6 +159,7 @@ pub(crate) fn decide<B: Book, T: BranchTable>(
         swept: false,
         pursued: 0,
         surveyed: 0,
+        instance: 0,
         spread: 0,
         classes: 0,
     };

@@ -14,14 +14,21 @@ use crate::types::Survey;
 use books::book::Book;
 use tables::table::BranchTable;
 
-// Among the instances of clause i.
-fn survey_clause<B: Book, T: BranchTable>(book: &B, table: &T, i: usize) -> Survey
+// Among the instances of clause i from a given one on. The hint tells where it stopped.
+fn survey_clause<B: Book, T: BranchTable>(
+    book: &B,
+    table: &T,
+    hints: &mut Hints,
+    i: usize,
+    first: usize,
+) -> Survey
     requires inside { ⌜ i < length (B·Book .clauses (now book)) ⌝ }
     requires reaches { ⌜ atoms (B·Book .counts (now book)) ≤ length (T·BranchTable .marks (now table)) ⌝ }
-    ensures { λ r. ⌜ Clause-surveyed (B·Book .counts (now (book .entry))) (B·Book .clauses (now (book .entry))) (T·BranchTable .marks (now (table .entry))) i r ⌝ }
+    ensures { λ r. ⌜ Clause-surveyed (B·Book .counts (now (book .entry))) (B·Book .clauses (now (book .entry))) (T·BranchTable .marks (now (table .entry))) i first r ⌝ }
 {
     let ranges = ranges(book, i);
-    for k in 0..size(ranges) {
+    for k in first..size(ranges) {
+        hints.instance = k;
         match evaluate(book, table, i, nth_names(ranges, k)) {
             Status::Fulfilled => {}
             Status::Broken => return Survey::Broken,
@@ -44,7 +51,7 @@ fn survey_from<B: Book, T: BranchTable>(
 {
     for i in from..book.len() {
         hints.surveyed = i;
-        match survey_clause(book, table, i) {
+        match survey_clause(book, table, hints, i, 0) {
             Survey::Fulfilled => {}
             Survey::Broken => return Survey::Broken,
             Survey::Split(l) => return Survey::Split(l),
@@ -53,14 +60,30 @@ fn survey_from<B: Book, T: BranchTable>(
     Survey::Fulfilled
 }
 
-// Among all instances, first from where the hint says.
+// The same from where the hints say.
+fn survey_on<B: Book, T: BranchTable>(book: &B, table: &T, hints: &mut Hints) -> Survey
+    requires { ⌜ atoms (B·Book .counts (now book)) ≤ length (T·BranchTable .marks (now table)) ⌝ }
+    ensures { λ r. ⌜ Surveyed-from (B·Book .counts (now (book .entry))) (B·Book .clauses (now (book .entry))) (T·BranchTable .marks (now (table .entry))) (length (B·Book .clauses (now (book .entry)))) r ⌝ }
+{
+    let from = hints.surveyed;
+    let first = hints.instance;
+    if from >= book.len() {
+        return Survey::Fulfilled;
+    }
+    match survey_clause(book, table, hints, from, first) {
+        Survey::Fulfilled => survey_from(book, table, hints, from + 1),
+        Survey::Broken => Survey::Broken,
+        Survey::Split(l) => Survey::Split(l),
+    }
+}
+
+// Among all instances; first among those from where the hints say.
 pub(crate) fn survey<B: Book, T: BranchTable>(book: &B, table: &T, hints: &mut Hints) -> Survey
     requires { ⌜ atoms (B·Book .counts (now book)) ≤ length (T·BranchTable .marks (now table)) ⌝ }
     ensures { λ r. ⌜ Surveyed (B·Book .counts (now (book .entry))) (B·Book .clauses (now (book .entry))) (T·BranchTable .marks (now (table .entry))) r ⌝ }
 {
-    let from = hints.surveyed;
-    if from > 0 {
-        match survey_from(book, table, hints, from) {
+    if hints.surveyed > 0 || hints.instance > 0 {
+        match survey_on(book, table, hints) {
             Survey::Fulfilled => {}
             Survey::Broken => return Survey::Broken,
             Survey::Split(l) => return Survey::Split(l),

@@ -93,6 +93,8 @@ pub(crate) struct Hints {
     pub(crate) pursued: usize,
     // the clauses before this one were fulfilled when last looked at
     pub(crate) surveyed: usize,
+    // and of this one the instances before this one
+    pub(crate) instance: usize,
     // atoms of linked names were told for the trail up to here
     pub(crate) spread: usize,
     // and so many classes there were

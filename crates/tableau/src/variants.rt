@@ -32,14 +32,14 @@ fn renamed(g: Ground, x: u8, y: u8) -> Ground
     }
 }
 
-// Whether those names have the leaders of its own.
+// Whether those names have the leaders of its own; where it has one name, the second is to be 0.
 fn is_led(classes: &ClassTable, g: Ground, x: u8, y: u8) -> bool
     ensures { λ r. ⌜ (r ≡ true → OneLed (leader-of (now (classes .entry))) g x y) ⌝ }
 {
     match g {
         Ground::Same(a, b) => classes.leader(a) == classes.leader(x)
             && classes.leader(b) == classes.leader(y),
-        Ground::Prop(_, a) => classes.leader(a) == classes.leader(x),
+        Ground::Prop(_, a) => y == 0 && classes.leader(a) == classes.leader(x),
         Ground::Rel(_, a, b) => classes.leader(a) == classes.leader(x)
             && classes.leader(b) == classes.leader(y),
     }
@@ -137,82 +137,27 @@ fn tell_renamed<B: Book, T: BranchTable>(
     )
 }
 
-// For each second name.
-fn tell_row<B: Book, T: BranchTable>(
-    book: &B,
-    table: &mut T,
-    trail: &mut Stack<'_, u16>,
-    choices: &Stack<'_, Choice>,
-    classes: &mut ClassTable,
-    g: Ground,
-    x: u8,
-) -> Pass
-    requires { ⌜ Set B·Book (now book) (moment T·BranchTable (now table) (now trail) (now choices)) (now classes) ⌝ }
-    ensures passed { λ r. ⌜ Passes B·Book (now (book .entry)) (moment T·BranchTable (now (table .entry)) (now (trail .entry)) (now (choices .entry))) (moment T·BranchTable (now (table .exit)) (now (trail .exit)) (now (choices .entry))) r ⌝ }
-    ensures fits { λ _. ⌜ Fits B·Book (now (book .entry)) (moment T·BranchTable (now (table .exit)) (now (trail .exit)) (now (choices .entry))) (now (classes .exit)) ⌝ }
-{
-    let mut moved = false;
-    for y in 0..book.counts().names() {
-        match tell_renamed(book, table, trail, choices, classes, g, x, y) {
-            Pass::Moved => moved = true,
-            Pass::Rest => {}
-            Pass::Hopeless => return Pass::Hopeless,
+// Whether the name's class has another name.
+fn is_linked(classes: &ClassTable, names: u8, a: u8) -> bool {
+    for x in 0..names {
+        if x != a && classes.leader(x) == classes.leader(a) {
+            return true;
         }
     }
-    pass_of(moved)
+    false
 }
 
-// With a given first name.
-fn tell_first<B: Book, T: BranchTable>(
-    book: &B,
-    table: &mut T,
-    trail: &mut Stack<'_, u16>,
-    choices: &Stack<'_, Choice>,
-    classes: &mut ClassTable,
-    g: Ground,
-    x: u8,
-) -> Pass
-    requires { ⌜ Set B·Book (now book) (moment T·BranchTable (now table) (now trail) (now choices)) (now classes) ⌝ }
-    ensures passed { λ r. ⌜ Passes B·Book (now (book .entry)) (moment T·BranchTable (now (table .entry)) (now (trail .entry)) (now (choices .entry))) (moment T·BranchTable (now (table .exit)) (now (trail .exit)) (now (choices .entry))) r ⌝ }
-    ensures fits { λ _. ⌜ Fits B·Book (now (book .entry)) (moment T·BranchTable (now (table .exit)) (now (trail .exit)) (now (choices .entry))) (now (classes .exit)) ⌝ }
-{
-    let first = match g {
-        Ground::Same(a, _) => a,
-        Ground::Prop(_, _) => return tell_renamed(book, table, trail, choices, classes, g, x, 0),
-        Ground::Rel(_, a, _) => a,
-    };
-    if classes.leader(first) != classes.leader(x) {
-        return Pass::Rest;
+// Whether that is so of a name of the atom.
+fn has_linked(classes: &ClassTable, names: u8, g: Ground) -> bool {
+    match g {
+        Ground::Same(a, b) => is_linked(classes, names, a) || is_linked(classes, names, b),
+        Ground::Prop(_, a) => is_linked(classes, names, a),
+        Ground::Rel(_, a, b) => is_linked(classes, names, a) || is_linked(classes, names, b),
     }
-    tell_row(book, table, trail, choices, classes, g, x)
 }
 
-// For each first name.
+// For each two names.
 fn tell_linked<B: Book, T: BranchTable>(
-    book: &B,
-    table: &mut T,
-    trail: &mut Stack<'_, u16>,
-    choices: &Stack<'_, Choice>,
-    classes: &mut ClassTable,
-    g: Ground,
-) -> Pass
-    requires { ⌜ Set B·Book (now book) (moment T·BranchTable (now table) (now trail) (now choices)) (now classes) ⌝ }
-    ensures passed { λ r. ⌜ Passes B·Book (now (book .entry)) (moment T·BranchTable (now (table .entry)) (now (trail .entry)) (now (choices .entry))) (moment T·BranchTable (now (table .exit)) (now (trail .exit)) (now (choices .entry))) r ⌝ }
-    ensures fits { λ _. ⌜ Fits B·Book (now (book .entry)) (moment T·BranchTable (now (table .exit)) (now (trail .exit)) (now (choices .entry))) (now (classes .exit)) ⌝ }
-{
-    let mut moved = false;
-    for x in 0..book.counts().names() {
-        match tell_first(book, table, trail, choices, classes, g, x) {
-            Pass::Moved => moved = true,
-            Pass::Rest => {}
-            Pass::Hopeless => return Pass::Hopeless,
-        }
-    }
-    pass_of(moved)
-}
-
-// For the atom with a number.
-fn tell_linked_at<B: Book, T: BranchTable>(
     book: &B,
     table: &mut T,
     trail: &mut Stack<'_, u16>,
@@ -224,10 +169,32 @@ fn tell_linked_at<B: Book, T: BranchTable>(
     ensures passed { λ r. ⌜ Passes B·Book (now (book .entry)) (moment T·BranchTable (now (table .entry)) (now (trail .entry)) (now (choices .entry))) (moment T·BranchTable (now (table .exit)) (now (trail .exit)) (now (choices .entry))) r ⌝ }
     ensures fits { λ _. ⌜ Fits B·Book (now (book .entry)) (moment T·BranchTable (now (table .exit)) (now (trail .exit)) (now (choices .entry))) (now (classes .exit)) ⌝ }
 {
-    match atom_at(book.counts(), atom as usize) {
-        Some(g) => tell_linked(book, table, trail, choices, classes, g),
-        None => Pass::Rest,
+    let counts = book.counts();
+    let names = counts.names();
+    let Some(g) = atom_at(counts, atom as usize) else {
+        return Pass::Rest;
+    };
+    if !has_linked(classes, names, g) {
+        return Pass::Rest;
     }
+    let mut moved = false;
+    for k in 0..names as usize * names as usize {
+        match tell_renamed(
+            book,
+            table,
+            trail,
+            choices,
+            classes,
+            g,
+            (k / names as usize) as u8,
+            (k % names as usize) as u8,
+        ) {
+            Pass::Moved => moved = true,
+            Pass::Rest => {}
+            Pass::Hopeless => return Pass::Hopeless,
+        }
+    }
+    pass_of(moved)
 }
 
 // For the atoms on the trail from a height on.
@@ -246,7 +213,7 @@ fn spread_from<B: Book, T: BranchTable>(
     let mut moved = false;
     let mut at = from;
     while let Some(atom) = trail.at(at) {
-        match tell_linked_at(book, table, trail, choices, classes, atom) {
+        match tell_linked(book, table, trail, choices, classes, atom) {
             Pass::Moved => moved = true,
             Pass::Rest => {}
             Pass::Hopeless => return Pass::Hopeless,

@@ -5,4 +5,4 @@ pub returns : need.returns
 returns g c =
     let b = g .B·Book in
     let book = c .args .book .now in
-    surveyed-whole (b .counts book) (b .clauses book) (g .T·BranchTable .marks (c .args .table .now)) (b .lawful book) (c .survey-from-2 .result) (c .survey-from-2 .ensures)
+    surveyed-whole (b .counts book) (b .clauses book) (g .T·BranchTable .marks (c .args .table .now)) (b .lawful book) (c .survey-from .result) (c .survey-from .ensures)

@@ -12,8 +12,8 @@ use Rattle.tableau.proofs.variants.spread_from.Needs.{in-Moved, in-Rest}
 pub loop-at-holds : need.loop-at-holds
 loop-at-holds g c = (steady-here (c .pre .state), c .pre)
 
-pub tell-linked-at-requires : need.tell-linked-at-requires
-tell-linked-at-requires g c κs = c .loop-at .inv .1
+pub tell-linked-requires : need.tell-linked-requires
+tell-linked-requires g c κs = c .loop-at .inv .1
 
 pub add-at : need.add-at
 add-at g c = omega (arith, c .in-Some .ensures tt .0, trail-le (c .loop-at .inv .1 .state), c .loop-at .inv .1 .state .roomy .short)
@@ -41,9 +41,9 @@ loop-at-again g c =
     let book = c .args .book .now in
     let m = moment t (c .args .table .now) (c .args .trail .now) (c .args .choices .now) in
     let m′ = moment t (c .loop-at .table) (c .loop-at .trail) (c .args .choices .now) in
-    let m″ = moment t (c .tell-linked-at .last .table) (c .tell-linked-at .last .trail) (c .args .choices .now) in
+    let m″ = moment t (c .tell-linked .last .table) (c .tell-linked .last .trail) (c .args .choices .now) in
     let P : Bool → Type 0 = λ v. Gone (b .counts book) (b .clauses book) m m″ v in
-    elim (c .match-tell-linked-at .came) [
+    elim (c .match-tell-linked .came) [
       | in-Moved w ↦
           let e = w .in-Moved .ensures tt in
           (subst P (sym (w .moved-is)) (lighter-on (gone-steady (b .counts book) (b .clauses book) m m′ (c .loop-at .moved) (c .loop-at .inv .0)) (e .passed .0)), record { state = e .passed .0 .state; calm = e .passed .1; fits = e .fits })
