@@ -29,6 +29,9 @@ use Rattle.semantics.proofs.Checking.{ground-used}
 use Rattle.tables.specs.Marks.{signed}
 use Rattle.tableau.specs.declared.types.SignedAtom.{SignedAtom}
 use Rattle.tableau.specs.declared.types.FourNames.{FourNames}
+use Rattle.tableau.specs.declared.types.Survey.{Survey}
+use Rattle.tableau.specs.declared.types.Survey.the-variants as survey
+use Rattle.tableau.specs.Scans.{Surveyed, Surveyed-from}
 use Rattle.tableau.specs.Signs.{Valuation, Holds, Some-of, StandsIn, signed-atom, instance, Modelled}
 use Rattle.tableau.specs.Instances.{names-of, Below, range, ranges, size, nth-names}
 use Rattle.tableau.proofs.Ranging.{uses-in, placed}
@@ -110,3 +113,15 @@ pub fulfilled : (c : Counts) (clauses : List Clause) (marks : Branch) → AllLaw
     → Fulfilled c clauses marks
 fulfilled c clauses marks lawful each cl (i, h, e) σ assigns =
     subst (SomeStands c marks σ) (e []) (stands-always c marks (getD clauses i []) (all-getD (Lawful c) clauses i [] h lawful) (each i h) σ assigns)
+
+-- a survey of all clauses
+pub surveyed-whole : (c : Counts) (clauses : List Clause) (marks : Branch) → AllLawful c clauses → (r : Survey) → Surveyed-from c clauses marks 0 r → Surveyed c clauses marks r
+surveyed-whole c clauses marks lawful survey.Fulfilled h = fulfilled c clauses marks lawful (λ i lt. h i lt (omega arith))
+surveyed-whole c clauses marks lawful survey.Broken h = h
+surveyed-whole c clauses marks lawful (survey.Split l) h = h
+
+-- and of none
+pub surveyed-less : (c : Counts) (clauses : List Clause) (marks : Branch) (n : ℕ) (r : Survey) → Surveyed-from c clauses marks n r → Surveyed-from c clauses marks (length clauses) r
+surveyed-less c clauses marks n survey.Fulfilled h = λ i lt le. absurd (omega arith)
+surveyed-less c clauses marks n survey.Broken h = h
+surveyed-less c clauses marks n (survey.Split l) h = h

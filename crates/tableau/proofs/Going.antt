@@ -18,13 +18,15 @@ use Rattle.tableau.specs.Signs.{Valuation, Says, Agrees, OpenIn, Modelled}
 use Rattle.tableau.specs.Branch.{Moment}
 use Rattle.tableau.specs.Scans.{NoModel}
 use Rattle.tableau.specs.Turns.{Sound-state, Lighter, Steady, Gone, Passed, Turned, pass-of}
+use Rattle.tableau.specs.declared.types.Pass.{Pass}
+use Rattle.tableau.specs.declared.types.Pass.the-variants as pass
 use Rattle.tableau.specs.declared.types.Outcome.{Outcome}
 use Rattle.tableau.specs.declared.types.Outcome.the-variants.{Done, Failed, Moved}
 use Rattle.tables.specs.Marks.{signed}
 use Rattle.tableau.proofs.States.{put-back}
 
 -- a model's valuation that agrees with the marks: the model agrees with the branch
-says-so : (m : Mark) (a s : Bool) → Says m a → m ≡ signed-so s → a ≡ s
+pub says-so : (m : Mark) (a s : Bool) → Says m a → m ≡ signed-so s → a ≡ s
 says-so Yes a true h e = h
 says-so No a false h e = h
 says-so Yes a false h e = grind arith
@@ -79,3 +81,8 @@ pub turned-on : (c : Counts) (clauses : List Clause) (m m′ m″ : Moment) (r :
 turned-on c clauses m m′ m″ Done s t = (steady-on s (t .0), t .1, t .2)
 turned-on c clauses m m′ m″ Failed s t = record { frame-is = t .frame-is ∙ s .frame-is; none = t .none; clear = t .clear }
 turned-on c clauses m m′ m″ Moved s t = (lighter-on s (t .0), t .1)
+
+pub passed-on : (c : Counts) (clauses : List Clause) (m m′ m″ : Moment) (r : Pass) → Steady c clauses m m′ → Passed c clauses m′ m″ r → Passed c clauses m m″ r
+passed-on c clauses m m′ m″ pass.Moved s p = (lighter-on s (p .0), p .1)
+passed-on c clauses m m′ m″ pass.Rest s p = (steady-on s (p .0), p .1)
+passed-on c clauses m m′ m″ pass.Hopeless s p = (steady-on s (p .0), p .1)

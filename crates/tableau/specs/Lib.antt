@@ -5,3 +5,5 @@ pub mod Instances
 pub mod Scans
 pub mod Turns
 pub mod Views
+pub mod Spans
+pub mod Variants

@@ -2,8 +2,8 @@
 use mathlib.Core.Path.{_≡_}
 use mathlib.Core.Logic.{_⊎_}
 use mathlib.Core.List.{List, []}
-use Prim.Native.Nat.{ℕ, _<_}
-use lib.ListN.{getD}
+use Prim.Native.Nat.{ℕ, _<_, _≤_}
+use lib.ListN.{length, getD}
 use Rattle.std.specs.shelf.Lists.{All, Has}
 use Rattle.syntax.specs.declared.types.Mark.{Mark}
 use Rattle.syntax.specs.declared.counts.Counts.{Counts}
@@ -57,9 +57,16 @@ Surveyed c clauses ms survey.Fulfilled = AllFulfilled c clauses ms
 Surveyed c clauses ms survey.Broken = NoModel (Modelled c clauses) ms
 Surveyed c clauses ms (survey.Split l) = (l .atom < atoms c) × OpenIn ms l
 
--- the same of one clause: every instance is fulfilled at its own variables
-abbrev pub Clause-surveyed : Counts → List Clause → List Mark → ℕ → Survey → Type 0
-Clause-surveyed c clauses ms i survey.Fulfilled =
-    (k : ℕ) → k < size (ranges c (getD clauses i [])) → Some-of (StandsIn ms) (instance c (names-of (nth-names (ranges c (getD clauses i [])) k)) (getD clauses i []))
-Clause-surveyed c clauses ms i survey.Broken = NoModel (Modelled c clauses) ms
-Clause-surveyed c clauses ms i (survey.Split l) = (l .atom < atoms c) × OpenIn ms l
+-- the same of one clause: every instance from one on is fulfilled at its own variables
+abbrev pub Clause-surveyed : Counts → List Clause → List Mark → ℕ → ℕ → Survey → Type 0
+Clause-surveyed c clauses ms i first survey.Fulfilled =
+    (k : ℕ) → k < size (ranges c (getD clauses i [])) → first ≤ k → Some-of (StandsIn ms) (instance c (names-of (nth-names (ranges c (getD clauses i [])) k)) (getD clauses i []))
+Clause-surveyed c clauses ms i first survey.Broken = NoModel (Modelled c clauses) ms
+Clause-surveyed c clauses ms i first (survey.Split l) = (l .atom < atoms c) × OpenIn ms l
+
+-- and of the clauses from one on
+abbrev pub Surveyed-from : Counts → List Clause → List Mark → ℕ → Survey → Type 0
+Surveyed-from c clauses ms from survey.Fulfilled =
+    (i : ℕ) → i < length clauses → from ≤ i → (k : ℕ) → k < size (ranges c (getD clauses i [])) → Some-of (StandsIn ms) (instance c (names-of (nth-names (ranges c (getD clauses i [])) k)) (getD clauses i []))
+Surveyed-from c clauses ms from survey.Broken = NoModel (Modelled c clauses) ms
+Surveyed-from c clauses ms from (survey.Split l) = (l .atom < atoms c) × OpenIn ms l

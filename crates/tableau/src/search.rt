@@ -9,8 +9,9 @@ use crate::clash::refresh;
 use crate::clash::renew;
 use crate::moves::choose;
 use crate::moves::flip;
+use crate::pursue::propagate;
 use crate::survey::survey;
-use crate::sweep::sweep;
+use crate::types::Hints;
 use crate::types::Outcome;
 use crate::types::Pass;
 use crate::types::SignedAtom;
@@ -64,47 +65,81 @@ fn backtrack<B: Book, T: BranchTable>(
     Outcome::Failed
 }
 
-// Makes a choice where the sweep came to rest, unless every instance is fulfilled.
+// The height below the top.
+fn below_top(height: usize) -> usize {
+    if height > 0 { height - 1 } else { 0 }
+}
+
+fn lower(a: usize, b: usize) -> usize {
+    if a < b { a } else { b }
+}
+
+// The same. The trail is then to be followed from its top, and each clause to be looked at.
+fn retreat<B: Book, T: BranchTable>(
+    book: &B,
+    table: &mut T,
+    trail: &mut Stack<'_, u16>,
+    choices: &mut Stack<'_, Choice>,
+    classes: &mut ClassTable,
+    hints: &mut Hints,
+) -> Outcome
+    requires state { ⌜ Searching B·Book (now book) (moment T·BranchTable (now table) (now trail) (now choices)) ⌝ }
+    requires hopeless { ⌜ Hopeless B·Book (now book) (moment T·BranchTable (now table) (now trail) (now choices)) ⌝ }
+    ensures turned { λ r. ⌜ Turns B·Book (now (book .entry)) (moment T·BranchTable (now (table .entry)) (now (trail .entry)) (now (choices .entry))) (moment T·BranchTable (now (table .exit)) (now (trail .exit)) (now (choices .exit))) r ⌝ }
+    ensures fits { λ r. ⌜ Fits-when B·Book (now (book .entry)) (moment T·BranchTable (now (table .exit)) (now (trail .exit)) (now (choices .exit))) (now (classes .exit)) r ⌝ }
+{
+    let outcome = backtrack(book, table, trail, choices, classes);
+    let top = below_top(trail.height());
+    hints.pursued = top;
+    hints.spread = lower(hints.spread, top);
+    hints.surveyed = 0;
+    hints.instance = 0;
+    outcome
+}
+
+// Makes a choice where nothing more is forced, unless every instance is fulfilled.
 fn decide_on<B: Book, T: BranchTable>(
     book: &B,
     table: &mut T,
     trail: &mut Stack<'_, u16>,
     choices: &mut Stack<'_, Choice>,
     classes: &mut ClassTable,
+    hints: &mut Hints,
 ) -> Outcome
     requires { ⌜ Set B·Book (now book) (moment T·BranchTable (now table) (now trail) (now choices)) (now classes) ⌝ }
     ensures turned { λ r. ⌜ Turns B·Book (now (book .entry)) (moment T·BranchTable (now (table .entry)) (now (trail .entry)) (now (choices .entry))) (moment T·BranchTable (now (table .exit)) (now (trail .exit)) (now (choices .exit))) r ⌝ }
     ensures fits { λ r. ⌜ Fits-when B·Book (now (book .entry)) (moment T·BranchTable (now (table .exit)) (now (trail .exit)) (now (choices .exit))) (now (classes .exit)) r ⌝ }
 {
-    match survey(book, table) {
+    match survey(book, table, hints) {
         Survey::Fulfilled => Outcome::Done,
-        Survey::Broken => backtrack(book, table, trail, choices, classes),
+        Survey::Broken => retreat(book, table, trail, choices, classes, hints),
         Survey::Split(l) => {
             if branch(book, table, trail, choices, classes, l) {
                 Outcome::Moved
             } else {
-                backtrack(book, table, trail, choices, classes)
+                retreat(book, table, trail, choices, classes, hints)
             }
         }
     }
 }
 
-// One turn: tells what the instances force, or takes a choice back, or makes one.
+// One turn: tells what is forced, or takes a choice back, or makes one.
 fn turn<B: Book, T: BranchTable>(
     book: &B,
     table: &mut T,
     trail: &mut Stack<'_, u16>,
     choices: &mut Stack<'_, Choice>,
     classes: &mut ClassTable,
+    hints: &mut Hints,
 ) -> Outcome
     requires { ⌜ Set B·Book (now book) (moment T·BranchTable (now table) (now trail) (now choices)) (now classes) ⌝ }
     ensures turned { λ r. ⌜ Turns B·Book (now (book .entry)) (moment T·BranchTable (now (table .entry)) (now (trail .entry)) (now (choices .entry))) (moment T·BranchTable (now (table .exit)) (now (trail .exit)) (now (choices .exit))) r ⌝ }
     ensures fits { λ r. ⌜ Fits-when B·Book (now (book .entry)) (moment T·BranchTable (now (table .exit)) (now (trail .exit)) (now (choices .exit))) (now (classes .exit)) r ⌝ }
 {
-    match sweep(book, table, trail, choices, classes) {
+    match propagate(book, table, trail, choices, classes, hints) {
         Pass::Moved => Outcome::Moved,
-        Pass::Rest => decide_on(book, table, trail, choices, classes),
-        Pass::Hopeless => backtrack(book, table, trail, choices, classes),
+        Pass::Rest => decide_on(book, table, trail, choices, classes, hints),
+        Pass::Hopeless => retreat(book, table, trail, choices, classes, hints),
     }
 }
 
@@ -120,8 +155,16 @@ pub(crate) fn decide<B: Book, T: BranchTable>(
     ensures decided { λ r. ⌜ Decides B·Book (now (book .entry)) (moment T·BranchTable (now (table .entry)) (now (trail .entry)) (now (choices .entry))) (moment T·BranchTable (now (table .exit)) (now (trail .exit)) (now (choices .exit))) r ⌝ }
     ensures fits { λ r. ⌜ (r ≡ true → Fits B·Book (now (book .entry)) (moment T·BranchTable (now (table .exit)) (now (trail .exit)) (now (choices .exit))) (now (classes .exit))) ⌝ }
 {
+    let mut hints = Hints {
+        swept: false,
+        pursued: 0,
+        surveyed: 0,
+        instance: 0,
+        spread: 0,
+        classes: 0,
+    };
     loop {
-        match turn(book, table, trail, choices, classes) {
+        match turn(book, table, trail, choices, classes, &mut hints) {
             Outcome::Done => return true,
             Outcome::Failed => return false,
             Outcome::Moved => {}

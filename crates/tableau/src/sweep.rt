@@ -24,7 +24,7 @@ use tables::stack::Stack;
 use tables::table::BranchTable;
 
 // Tells a signed atom that follows from the branch.
-fn enforce<B: Book, T: BranchTable>(
+pub(crate) fn enforce<B: Book, T: BranchTable>(
     book: &B,
     table: &mut T,
     trail: &mut Stack<'_, u16>,
@@ -47,7 +47,7 @@ fn enforce<B: Book, T: BranchTable>(
 }
 
 // Tells what one instance forces.
-fn press<B: Book, T: BranchTable>(
+pub(crate) fn press<B: Book, T: BranchTable>(
     book: &B,
     table: &mut T,
     trail: &mut Stack<'_, u16>,
@@ -70,7 +70,7 @@ fn press<B: Book, T: BranchTable>(
     }
 }
 
-fn pass_of(moved: bool) -> Pass
+pub(crate) fn pass_of(moved: bool) -> Pass
     ensures { λ r. ⌜ r ≡ pass-by moved ⌝ }
 {
     if moved { Pass::Moved } else { Pass::Rest }
@@ -110,7 +110,28 @@ fn sweep_clause<B: Book, T: BranchTable>(
     pass_of(moved)
 }
 
-// Tells what the instances of every clause force.
+// The same where it has one literal.
+fn sweep_single<B: Book, T: BranchTable>(
+    book: &B,
+    table: &mut T,
+    trail: &mut Stack<'_, u16>,
+    choices: &Stack<'_, Choice>,
+    classes: &mut ClassTable,
+    i: usize,
+) -> Pass
+    requires ready { ⌜ Set B·Book (now book) (moment T·BranchTable (now table) (now trail) (now choices)) (now classes) ⌝ }
+    requires inside { ⌜ i < length (B·Book .clauses (now book)) ⌝ }
+    ensures passed { λ r. ⌜ Passes B·Book (now (book .entry)) (moment T·BranchTable (now (table .entry)) (now (trail .entry)) (now (choices .entry))) (moment T·BranchTable (now (table .exit)) (now (trail .exit)) (now (choices .entry))) r ⌝ }
+    ensures fits { λ _. ⌜ Fits B·Book (now (book .entry)) (moment T·BranchTable (now (table .exit)) (now (trail .exit)) (now (choices .entry))) (now (classes .exit)) ⌝ }
+{
+    match book.literals(i) {
+        Some(1) => sweep_clause(book, table, trail, choices, classes, i),
+        Some(_) => Pass::Rest,
+        None => Pass::Rest,
+    }
+}
+
+// Tells what the clauses of one literal force: where nothing stands, no other forces anything.
 pub(crate) fn sweep<B: Book, T: BranchTable>(
     book: &B,
     table: &mut T,
@@ -124,7 +145,7 @@ pub(crate) fn sweep<B: Book, T: BranchTable>(
 {
     let mut moved = false;
     for i in 0..book.len() {
-        match sweep_clause(book, table, trail, choices, classes, i) {
+        match sweep_single(book, table, trail, choices, classes, i) {
             Pass::Moved => moved = true,
             Pass::Rest => {}
             Pass::Hopeless => return Pass::Hopeless,

@@ -67,3 +67,36 @@ pub(crate) enum Outcome {
     Failed,
     Moved,
 }
+
+// The names that a variable may stand for: `count` of them, from `first` on.
+#[derive(Clone, Copy)]
+pub(crate) struct Span {
+    pub(crate) first: u8,
+    pub(crate) count: u8,
+}
+
+// The same of the variables 0 to 3.
+#[derive(Clone, Copy)]
+pub(crate) struct Spans {
+    pub(crate) x: Span,
+    pub(crate) y: Span,
+    pub(crate) z: Span,
+    pub(crate) w: Span,
+}
+
+// Where the search goes on. Nothing rests on it: whatever it says, the search is right.
+#[derive(Clone, Copy)]
+pub(crate) struct Hints {
+    // whether what is forced where nothing stands was told
+    pub(crate) swept: bool,
+    // the trail was followed up to here
+    pub(crate) pursued: usize,
+    // the clauses before this one were fulfilled when last looked at
+    pub(crate) surveyed: usize,
+    // and of this one the instances before this one
+    pub(crate) instance: usize,
+    // atoms of linked names were told for the trail up to here
+    pub(crate) spread: usize,
+    // and so many classes there were
+    pub(crate) classes: usize,
+}

@@ -17,12 +17,12 @@ returns-else-branch g c =
     let t = g .T·BranchTable in
     let b = g .B·Book in
     let book = c .args .book .now in
-    let e = c .backtrack-else-branch .ensures in
+    let e = c .retreat-else-branch .ensures in
     record {
       turned =
           turned-on (b .counts book) (b .clauses book) (moment t (c .args .table .now) (c .args .trail .now) (c .args .choices .now))
           (moment t (c .branch-book .last .table) (c .branch-book .last .trail) (c .branch-book .last .choices))
-          (moment t (c .backtrack-else-branch .last .table) (c .backtrack-else-branch .last .trail) (c .backtrack-else-branch .last .choices)) (c .backtrack-else-branch .result)
+          (moment t (c .retreat-else-branch .last .table) (c .retreat-else-branch .last .trail) (c .retreat-else-branch .last .choices)) (c .retreat-else-branch .result)
           (lighter-steady (c .if-branch .ensures tt .tried .0)) (e .turned);
       fits = e .fits;
     }

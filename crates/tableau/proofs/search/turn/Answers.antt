@@ -11,7 +11,7 @@ returns-in-Rest g c =
     record {
       turned =
           turned-on (b .counts book) (b .clauses book) (moment t (c .args .table .now) (c .args .trail .now) (c .args .choices .now))
-          (moment t (c .sweep .last .table) (c .sweep .last .trail) (c .args .choices .now)) (moment t (c .decide-on .last .table) (c .decide-on .last .trail) (c .decide-on .last .choices)) (c .decide-on .result)
+          (moment t (c .propagate .last .table) (c .propagate .last .trail) (c .args .choices .now)) (moment t (c .decide-on .last .table) (c .decide-on .last .trail) (c .decide-on .last .choices)) (c .decide-on .result)
           (c .in-Rest .ensures tt .passed .0) (e .turned);
       fits = e .fits;
     }
@@ -21,11 +21,11 @@ returns-in-Hopeless g c =
     let t = g .T·BranchTable in
     let b = g .B·Book in
     let book = c .args .book .now in
-    let e = c .backtrack .ensures in
+    let e = c .retreat .ensures in
     record {
       turned =
           turned-on (b .counts book) (b .clauses book) (moment t (c .args .table .now) (c .args .trail .now) (c .args .choices .now))
-          (moment t (c .sweep .last .table) (c .sweep .last .trail) (c .args .choices .now)) (moment t (c .backtrack .last .table) (c .backtrack .last .trail) (c .backtrack .last .choices)) (c .backtrack .result)
+          (moment t (c .propagate .last .table) (c .propagate .last .trail) (c .args .choices .now)) (moment t (c .retreat .last .table) (c .retreat .last .trail) (c .retreat .last .choices)) (c .retreat .result)
           (c .in-Hopeless .ensures tt .passed .0) (e .turned);
       fits = e .fits;
     }

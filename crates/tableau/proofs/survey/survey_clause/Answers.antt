@@ -87,7 +87,7 @@ loop-k-again g c =
     let book = c .args .book .now in
     let cl = getD (b .clauses book) (c .args .i) [] in
     let P : FourNames → Type 0 = λ n. Some-of (StandsIn (g .T·BranchTable .marks (c .args .table .now))) (instance (b .counts book) (names-of n) cl) in
-    below-more _ _ (c .loop-k .inv) (subst P (names-at (b .counts book) cl (c .ranges-ranges .result) (c .ranges-ranges .ensures) (c .loop-k .k) (c .nth-names .result) (c .nth-names .ensures)) (c .in-Fulfilled .ensures tt))
+    below-more _ _ (c .loop-k .inv) (λ _. subst P (names-at (b .counts book) cl (c .ranges-ranges .result) (c .ranges-ranges .ensures) (c .loop-k .k) (c .nth-names .result) (c .nth-names .ensures)) (c .in-Fulfilled .ensures tt))
 
 pub returns : need.returns
 returns g c =
@@ -95,4 +95,4 @@ returns g c =
     let book = c .args .book .now in
     let cl = getD (b .clauses book) (c .args .i) [] in
     let n = size-at (b .counts book) cl (c .ranges-ranges .result) (c .ranges-ranges .ensures) (c .size-k-end .result) (c .size-k-end .ensures) in
-    λ k h. c .loop-k .inv k (omega (arith, c .loop-k-test .left, n))
+    λ k h f. c .loop-k .inv k (omega (arith, c .loop-k-test .left, n)) f

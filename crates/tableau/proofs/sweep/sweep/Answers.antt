@@ -11,8 +11,8 @@ use Rattle.tableau.proofs.sweep.sweep.Needs.{in-Moved, in-Rest}
 pub loop-i-holds : need.loop-i-holds
 loop-i-holds g c = (steady-here (c .pre .state), c .pre)
 
-pub sweep-clause-requires : need.sweep-clause-requires
-sweep-clause-requires g c κs = record { ready = c .loop-i .inv .1; inside = omega (arith, c .loop-i-test .taken, c .len-i-end .ensures) }
+pub sweep-single-requires : need.sweep-single-requires
+sweep-single-requires g c κs = record { ready = c .loop-i .inv .1; inside = omega (arith, c .loop-i-test .taken, c .len-i-end .ensures) }
 
 pub returns-in-Hopeless : need.returns-in-Hopeless
 returns-in-Hopeless g c =
@@ -34,9 +34,9 @@ loop-i-again g c =
     let book = c .args .book .now in
     let m = moment t (c .args .table .now) (c .args .trail .now) (c .args .choices .now) in
     let m′ = moment t (c .loop-i .table) (c .loop-i .trail) (c .args .choices .now) in
-    let m″ = moment t (c .sweep-clause .last .table) (c .sweep-clause .last .trail) (c .args .choices .now) in
+    let m″ = moment t (c .sweep-single .last .table) (c .sweep-single .last .trail) (c .args .choices .now) in
     let P : Bool → Type 0 = λ v. Gone (b .counts book) (b .clauses book) m m″ v in
-    elim (c .match-sweep-clause .came) [
+    elim (c .match-sweep-single .came) [
       | in-Moved w ↦
           let e = w .in-Moved .ensures tt in
           (subst P (sym (w .moved-is)) (lighter-on (gone-steady (b .counts book) (b .clauses book) m m′ (c .loop-i .moved) (c .loop-i .inv .0)) (e .passed .0)), record { state = e .passed .0 .state; calm = e .passed .1; fits = e .fits })
