@@ -1,3 +1,4 @@
+#![tactic(auto)]
 // Block files: a book in blocks of 512 bytes, read where it lies.
 mod block;
 pub mod book;

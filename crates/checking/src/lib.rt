@@ -1,3 +1,4 @@
+#![tactic(auto)]
 // Checking a model: whether bytes are those of an interpretation, and whether it satisfies a book.
 pub mod bytes;
 pub mod checks;

@@ -1,3 +1,4 @@
+#![tactic(auto)]
 // What stands on one branch for linked names: which names are linked, whether the branch clashes, and its own model.
 pub mod clash;
 mod gather;

@@ -1,3 +1,4 @@
+#![tactic(auto)]
 // Comparing two books: whether the same interpretations satisfy both.
 pub mod answer;
 pub mod compare;

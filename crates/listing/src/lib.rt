@@ -1,3 +1,4 @@
+#![tactic(auto)]
 // The work behind the program `sure`, on values. The listing itself is not there yet: a text is taken
 // in and measured.
 ghost use Rattle.listing.specs.Intake.{TakenIn};

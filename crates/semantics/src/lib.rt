@@ -1,3 +1,4 @@
+#![tactic(auto)]
 // What judging rests on: interpretations, models and branches stand in specs/, and each function here has theorems
 // about them as its contract.
 ghost use Rattle.semantics.specs.Theorems.{OwnModel, OwnExact, OneOwn, OwnAgrees, OneTable, TableFrom, FulfilledFrom};

@@ -1,3 +1,4 @@
+#![tactic(auto)]
 // Reads a rule book's text from standard input and prints one line.
 use listing::take_in;
 use std::io;

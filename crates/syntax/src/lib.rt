@@ -1,3 +1,4 @@
+#![tactic(auto)]
 // The vocabulary of rule books: terms, atoms, literals, counts and refusals; what is lawful; the
 // bytes of a literal; the numbers of the ground atoms.
 pub mod codes;

@@ -1,3 +1,4 @@
+#![tactic(auto)]
 // Tables of cases for the crate `syntax`.
 #[cfg(test)]
 mod tests;

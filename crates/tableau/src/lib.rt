@@ -1,3 +1,4 @@
+#![tactic(auto)]
 // Judging: whether some interpretation satisfies every clause of a book, and if so one that does.
 pub mod branch;
 pub(crate) mod clash;

@@ -1,3 +1,4 @@
+#![tactic(auto)]
 // Tests of the crate tableau. They stand in a crate of their own, since a crate is proved a second time with its tests.
 #[cfg(test)]
 mod tests;

@@ -1,3 +1,4 @@
+#![tactic(auto)]
 // Branch tables, which keep one of yes, no or open for each atom, and the stack.
 pub mod counting;
 pub mod listed;

@@ -1,3 +1,4 @@
+#![tactic(auto)]
 // The tables and the stack at work: what a lender knows of its memory after, and the edges.
 pub mod lent;
 pub mod walk;

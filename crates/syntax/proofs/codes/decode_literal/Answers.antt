@@ -10,4 +10,4 @@ returns c =
       | in-0 w ↦ w.in-0.is ∙ sym (ap sign_code w.sign-is)
       | in-1 w ↦ w.in-1.is ∙ sym (ap sign_code w.sign-is)
     ] in
-    five_back c.args.counts c.args.bytes.now c.match-sign.sign c.in-ok-atom.atom (search rules) sign (sym c.in-ok-atom.ensures)
+    five_back c.args.counts c.args.bytes.now c.match-sign.sign c.in_ok-atom.atom (search rules) sign (sym c.in_ok-atom.ensures)

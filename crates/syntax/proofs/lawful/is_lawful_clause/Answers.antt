@@ -7,15 +7,15 @@ use Rattle.syntax.specs.declared.types.Literal.{Literal}
 use Rattle.syntax.specs.Lawful.{LawfulLiteral}
 use Rattle.syntax.proofs.lawful.is_lawful_clause.Goals as goal
 
-pub returns-then-not-is-lawful-literal : goal.returns-then-not-is-lawful-literal
-returns-then-not-is-lawful-literal c = (
+pub returns-then-not-is_lawful_literal : goal.returns-then-not-is_lawful_literal
+returns-then-not-is_lawful_literal c = (
   λ e. absurd (false≢true e),
-  λ h. c.if-not-is-lawful-literal.ensures.1 (All-get_or (LawfulLiteral c.args.counts) c.args.literals.now c.loop-l.l-index _ c.loop-l-test.true h.each),
+  λ h. c.if-not-is_lawful_literal.ensures.1 (All-get_or (LawfulLiteral c.args.counts) c.args.literals.now c.loop-l.l-index _ c.loop-l-test.true h.each),
 )
 
 pub loop-l-preserved : goal.loop-l-preserved
 loop-l-preserved c =
-    All-more (LawfulLiteral c.args.counts) c.args.literals.now c.loop-l.l-index _ c.loop-l-test.true c.loop-l.invariant (c.is-lawful-literal.ensures.0 c.if-not-is-lawful-literal.false)
+    All-more (LawfulLiteral c.args.counts) c.args.literals.now c.loop-l.l-index _ c.loop-l-test.true c.loop-l.invariant (c.is_lawful_literal.ensures.0 c.if-not-is_lawful_literal.false)
 
 pub returns : goal.returns
 returns c =

@@ -10,8 +10,8 @@ pub returns-then-row-n-2 : goal.returns-then-row-n-2
 returns-then-row-n-2 c =
     found_prop c.args.counts c.args.k _ _ c.names-n.ensures c.properties-m.ensures (omega arith) c.if-row-n.false c.if-row-n-2.true
 
-pub overflow-cast-result-2 : goal.overflow-cast-result-2
-overflow-cast-result-2 c =
+pub overflow_cast-result-2 : goal.overflow_cast-result-2
+overflow_cast-result-2 c =
     omega (arith, pair_fits c.args.counts c.args.k _ _ c.names-n.ensures c.properties-m.ensures (omega arith) c.if-row-n-2.false)
 
 pub returns : goal.returns

@@ -8,7 +8,7 @@ unfolding number_of
 returns-in-Same c =
     let a = c.in-Same.a in
     let b = c.in-Same.b in
-    numbered c.args.counts c.args.g _ (c.is-lawful-ground.ensures.0 c.if-not-is-lawful-ground.false)
+    numbered c.args.counts c.args.g _ (c.is_lawful_ground.ensures.0 c.if-not-is_lawful_ground.false)
     (ap (λ (n : ℕ). a * n + b) c.names-n.ensures ∙ ap (number_of c.args.counts) (sym c.in-Same.is))
 
 pub returns-in-Prop : goal.returns-in-Prop
@@ -16,7 +16,7 @@ unfolding number_of
 returns-in-Prop c =
     let p = c.in-Prop.p in
     let a = c.in-Prop.a in
-    numbered c.args.counts c.args.g _ (c.is-lawful-ground.ensures.0 c.if-not-is-lawful-ground.false)
+    numbered c.args.counts c.args.g _ (c.is_lawful_ground.ensures.0 c.if-not-is_lawful_ground.false)
     (ap (λ (n : ℕ). n * n + p * n + a) c.names-n.ensures ∙ ap (number_of c.args.counts) (sym c.in-Prop.is))
 
 pub returns-in-Rel : goal.returns-in-Rel
@@ -25,5 +25,5 @@ returns-in-Rel c =
     let r = c.in-Rel.r in
     let a = c.in-Rel.a in
     let b = c.in-Rel.b in
-    numbered c.args.counts c.args.g _ (c.is-lawful-ground.ensures.0 c.if-not-is-lawful-ground.false)
+    numbered c.args.counts c.args.g _ (c.is_lawful_ground.ensures.0 c.if-not-is_lawful_ground.false)
     (ap₂ (λ (n m : ℕ). n * n + m * n + (r * n + a) * n + b) c.names-n.ensures c.properties-m.ensures ∙ ap (number_of c.args.counts) (sym c.in-Rel.is))
