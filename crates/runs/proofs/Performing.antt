@@ -16,8 +16,8 @@ run_push s runs.Run.none h = runs.Run.more s h runs.Run.none
 run_push s (runs.Run.more t k run) h = runs.Run.more t k (run_push s run h)
 
 handed_push : {m m' : Lent} {steps : List Step} (s : Step) → HandedOn m steps m' → s.before ≡ m' → HandedOn m (steps ++ s ∷ []) s.after
-handed_push s (runs.Handed-on.none {m}) e = subst (λ (x : Lent). HandedOn x (s ∷ []) s.after) e (runs.Handed-on.more s runs.Handed-on.none)
-handed_push s (runs.Handed-on.more t h) e = runs.Handed-on.more t (handed_push s h e)
+handed_push s (runs.HandedOn.none {m}) e = subst (λ (x : Lent). HandedOn x (s ∷ []) s.after) e (runs.HandedOn.more s runs.HandedOn.none)
+handed_push s (runs.HandedOn.more t h) e = runs.HandedOn.more t (handed_push s h e)
 
 -- the first n calls were carried out
 pub record Performing (c : Counts) (cs : List Clause) (deeds : List Deed) (m : Lent) (journal : List Answer) (n : ℕ) (c' : Counts) (cs' : List Clause) (m' : Lent) (journal' : List Answer) : Type 0 where
@@ -40,7 +40,7 @@ perform_none c cs deeds m journal = record {
   beyond = refl;
   long = refl;
   run = runs.Run.none;
-  handed = runs.Handed-on.none;
+  handed = runs.HandedOn.none;
   counts = refl;
   calls = omega arith;
   entries = omega arith;

@@ -2,4 +2,4 @@ use Rattle.semantics.proofs.Steps as lemmas
 use Rattle.semantics.proofs.one_step.Goals as goal
 
 pub returns : goal.returns
-returns c = record { forced = lemmas.forced; conflict = lemmas.denied-all; alike = lemmas.told-alike; split = lemmas.split }
+returns c = record { forced = lemmas.forced; conflict = lemmas.denied_all; alike = lemmas.told_alike; split = lemmas.split }

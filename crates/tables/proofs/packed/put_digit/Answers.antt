@@ -9,7 +9,7 @@ unfolding beyond
 returns c =
     let h : c.args.atom / 4 < 2560 = omega arith in
     record {
-      marks = packed_set c.args.bytes.now c.args.atom _ c.args.value c.requires.atom c.with-digit-byte.ensures.here c.with-digit-byte.ensures.elsewhere;
+      marks = packed_set c.args.bytes.now c.args.atom _ c.args.value c.requires.atom c.with_digit-byte.ensures.here c.with_digit-byte.ensures.elsewhere;
       beyond = drop-set-lt 2560 c.args.bytes.now (c.args.atom / 4) _ h;
       length = length-set _ _ _;
     }

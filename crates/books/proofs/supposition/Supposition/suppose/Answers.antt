@@ -12,7 +12,7 @@ pub returns-then-self-eq16 : goal.returns-then-self-eq16
 returns-then-self-eq16 g c =
     let s = c.args.self.now in
     let P : Counts → Type 0 = λ q. GroundLiteral q c.args.l in
-    let law = subst P c.counts.ensures (c.is-ground-literal.ensures.0 c.if-not-is-ground-literal.false) in
+    let law = subst P c.counts.ensures (c.is_ground_literal.ensures.0 c.if-not-is_ground_literal.false) in
     let n : length (own_of s) ≡ s.held = simp length-take (omega arith) in
     record {
       below = refl;
@@ -26,8 +26,8 @@ returns g c =
     let s = c.args.self.now in
     let b = s.below in
     let P : Counts → Type 0 = λ q. GroundLiteral q c.args.l in
-    let law = subst P c.counts.ensures (c.is-ground-literal.ensures.0 c.if-not-is-ground-literal.false) in
-    let test = ap (λ q. ground_literal q c.args.l) (sym c.counts.ensures) ∙ ground_is c.counts.result c.args.l _ c.is-ground-literal.ensures ∙ c.if-not-is-ground-literal.false in
+    let law = subst P c.counts.ensures (c.is_ground_literal.ensures.0 c.if-not-is_ground_literal.false) in
+    let test = ap (λ q. ground_literal q c.args.l) (sym c.counts.ensures) ∙ ground_is c.counts.result c.args.l _ c.is_ground_literal.ensures ∙ c.if-not-is_ground_literal.false in
     let few = laid_few (g.B.Book.clauses b) (units (g.B.Book.counts b) (own_of s)) (g.B.Book.few b) in
     let room : length (laid (g.B.Book.clauses b) (units (g.B.Book.counts b) (own_of s))) < 65535 = omega (arith, c.len-all.ensures) in
     let n : length (own_of s) < 16 = simp length-take (omega arith) in

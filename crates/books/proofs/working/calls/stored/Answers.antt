@@ -4,8 +4,12 @@ use Rattle.std.proofs.lemmas.List.{take_at}
 use Rattle.books.proofs.working.calls.stored.Goals as goal
 
 pub returns : goal.returns
-returns c = take_at c.copy-from-slice.new.self _ _ (ap length c.copy-from-slice.ensures.after) ∙ c.copy-from-slice.ensures.after
+returns c = take_at c.copy_from_slice.new.self _ _ (ap length c.copy_from_slice.ensures.after) ∙ c.copy_from_slice.ensures.after
 
-pub invariant-of-result : goal.invariant-of-result
-invariant-of-result c =
-    (omega arith, (omega arith, simp (length-append, length-drop) (omega (arith, ap length c.copy-from-slice.ensures.after))))
+pub invariant_of-result : goal.invariant_of-result
+invariant_of-result c =
+    record {
+      some = omega arith;
+      few = omega arith;
+      whole = simp (length-append, length-drop) (omega (arith, ap length c.copy_from_slice.ensures.after));
+    }

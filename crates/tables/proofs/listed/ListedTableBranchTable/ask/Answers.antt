@@ -31,5 +31,5 @@ returns c =
     let here = sign_at rs at no_row (omega arith) s.each in
     let which = c.place-at.ensures.found no_row h in (
       near_ask (listed rs) c.args.atom (omega (arith, listed_length rs)),
-      c.mark-for.ensures ∙ sym (ap (λ (r : Row). signed r.sign) (get_or-take s.len s.rows.now at no_row h)) ∙ sym here ∙ ap (λ k. get_or (listed rs) k Open) which,
+      c.mark_for.ensures ∙ sym (ap (λ (r : Row). signed r.sign) (get_or-take s.len s.rows.now at no_row h)) ∙ sym here ∙ ap (λ k. get_or (listed rs) k Open) which,
     )

@@ -51,9 +51,9 @@ returns c =
     record {
       told = (
         done_tell (listed rs) c.args.atom (length s.rows.now) (omega (arith, listed_length rs)) (c.place.ensures.absent (omega arith)) (omega (arith, s.each, s.within)),
-        c.add-row.ensures.told ∙ ap (λ (t : ListedTable). set (listed (take t.len t.rows.now)) c.args.atom (signed c.args.sign)) was,
+        c.add_row.ensures.told ∙ ap (λ (t : ListedTable). set (listed (take t.len t.rows.now)) c.args.atom (signed c.args.sign)) was,
       );
       kept = tt;
-      room = c.add-row.auto.rows ∙ ap (λ (t : ListedTable). length t.rows.now) was;
+      room = c.add_row.auto.rows ∙ ap (λ (t : ListedTable). length t.rows.now) was;
       loan = ap (λ (t : ListedTable). record { name = t.rows.ghost_name; spare = [] }) was;
     }

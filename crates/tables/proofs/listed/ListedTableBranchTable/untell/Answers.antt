@@ -40,10 +40,10 @@ returns c =
     record {
       untold = (
         done_untell (listed rs) c.args.atom (omega (arith, listed_length rs)) (sym (ap (λ k. stands (get_or (listed rs) k Open)) which) ∙ up),
-        c.remove-row.ensures.untold ∙ ap (λ k. set (listed (take k r.rows.now)) c.args.atom Open) e
+        c.remove_row.ensures.untold ∙ ap (λ k. set (listed (take k r.rows.now)) c.args.atom Open) e
             ∙ ap (λ (t : ListedTable). set (listed (take t.len t.rows.now)) c.args.atom Open) was,
       );
       kept = tt;
-      room = c.remove-row.auto.rows ∙ ap (λ (t : ListedTable). length t.rows.now) was;
+      room = c.remove_row.auto.rows ∙ ap (λ (t : ListedTable). length t.rows.now) was;
       loan = ap (λ (t : ListedTable). record { name = t.rows.ghost_name; spare = [] }) was;
     }

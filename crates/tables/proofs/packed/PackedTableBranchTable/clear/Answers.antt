@@ -7,9 +7,9 @@ use Rattle.tables.proofs.packed.PackedTableBranchTable.clear.Goals as goal
 pub returns : goal.returns
 returns c =
     let bs = c.args.self.now.bytes.now in
-    let e = c.put-zeros.ensures in
+    let e = c.put_zeros.ensures in
     record {
       cleared = ap packed_marks e ∙ wiped_cleared bs;
       room = ap packed_reach e ∙ wiped_reach bs;
-      loan = ap (λ s. record { name = c.args.self.now.bytes.name; spare = s }) (ap beyond e ∙ wiped_beyond bs);
+      loan = ap (λ s. record { name = c.args.self.now.bytes.ghost_name; spare = s }) (ap beyond e ∙ wiped_beyond bs);
     }

@@ -7,8 +7,8 @@ use Rattle.tables.proofs.Packs.{stood, lay}
 use Rattle.tables.proofs.Refused.{far_tell, up_tell, done_tell}
 use Rattle.tables.proofs.packed.PackedTableBranchTable.tell.Goals as goal
 
-pub returns-then-atom-reach-of : goal.returns-then-atom-reach-of
-returns-then-atom-reach-of c =
+pub returns-then-atom-reach_of : goal.returns-then-atom-reach_of
+returns-then-atom-reach_of c =
     let bs = c.args.self.now.bytes.now in
     record { told = (far_tell (packed_marks bs) c.args.atom (packed_reach bs) (omega (arith, packed_length bs)), refl); kept = refl; room = refl; loan = refl }
 
@@ -31,9 +31,9 @@ returns c =
     record {
       told = (
         done_tell (packed_marks bs) c.args.atom (packed_reach bs) near o (omega (arith, standing_lt (packed_marks bs) c.args.atom near o)),
-        c.put-digit.ensures.marks ∙ ap (set (packed_marks bs) c.args.atom) c.digit-for.ensures.means,
+        c.put_digit.ensures.marks ∙ ap (set (packed_marks bs) c.args.atom) c.digit_for.ensures.means,
       );
       kept = tt;
-      room = ap (λ m. 4 * min m 2560) c.put-digit.ensures.length;
-      loan = ap (λ s. record { name = c.args.self.now.bytes.name; spare = s }) c.put-digit.ensures.beyond;
+      room = ap (λ m. 4 * min m 2560) c.put_digit.ensures.length;
+      loan = ap (λ s. record { name = c.args.self.now.bytes.ghost_name; spare = s }) c.put_digit.ensures.beyond;
     }

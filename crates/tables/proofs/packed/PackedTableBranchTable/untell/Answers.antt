@@ -6,8 +6,8 @@ use Rattle.tables.proofs.Packs.{stood, lay}
 use Rattle.tables.proofs.Refused.{far_untell, open_untell, done_untell}
 use Rattle.tables.proofs.packed.PackedTableBranchTable.untell.Goals as goal
 
-pub returns-then-atom-reach-of : goal.returns-then-atom-reach-of
-returns-then-atom-reach-of c =
+pub returns-then-atom-reach_of : goal.returns-then-atom-reach_of
+returns-then-atom-reach_of c =
     let bs = c.args.self.now.bytes.now in
     record { untold = (far_untell (packed_marks bs) c.args.atom (omega (arith, packed_length bs)), refl); kept = refl; room = refl; loan = refl }
 
@@ -27,9 +27,9 @@ returns c =
     record {
       untold = (
         done_untell (packed_marks bs) c.args.atom (omega (arith, packed_length bs)) (stood _ _ c.digit.ensures c.if-digit-eq0.false),
-        c.put-digit.ensures.marks,
+        c.put_digit.ensures.marks,
       );
       kept = tt;
-      room = ap (λ m. 4 * min m 2560) c.put-digit.ensures.length;
-      loan = ap (λ s. record { name = c.args.self.now.bytes.name; spare = s }) c.put-digit.ensures.beyond;
+      room = ap (λ m. 4 * min m 2560) c.put_digit.ensures.length;
+      loan = ap (λ s. record { name = c.args.self.now.bytes.ghost_name; spare = s }) c.put_digit.ensures.beyond;
     }
