@@ -34,24 +34,24 @@ module _ (c : Counts) (cl : Clause) (l : Four) (lim : Limits c cl l) where
   pub few : Few l
   few =
       let x = limit_names c _ l.x lim.at_x in let y = limit_names c _ l.y lim.at_y in
-      let z = limit_names c _ l.z lim.at-z in let w = limit_names c _ l.w lim.at-w in
-      ((limit_some c _ l.x lim.at_x, omega arith), (limit_some c _ l.y lim.at_y, omega arith), (limit_some c _ l.z lim.at-z, omega arith), (limit_some c _ l.w lim.at-w, omega arith))
+      let z = limit_names c _ l.z lim.at_z in let w = limit_names c _ l.w lim.at_w in
+      ((limit_some c _ l.x lim.at_x, omega arith), (limit_some c _ l.y lim.at_y, omega arith), (limit_some c _ l.z lim.at_z, omega arith), (limit_some c _ l.w lim.at_w, omega arith))
 
   pub assigns : (x y z w : ℕ) → Below l x y z w → Assigns c (four x y z w)
   assigns x y z w b =
       four_below c.names x y z w
       (omega (arith, limit_names c _ l.x lim.at_x))
       (omega (arith, limit_names c _ l.y lim.at_y))
-      (omega (arith, limit_names c _ l.z lim.at-z))
-      (omega (arith, limit_names c _ l.w lim.at-w))
+      (omega (arith, limit_names c _ l.z lim.at_z))
+      (omega (arith, limit_names c _ l.w lim.at_w))
 
   unused : (x y z w : ℕ) → Below l x y z w → (v : ℕ) → v < 4 → uses v cl ≡ false → four x y z w v ≡ 0
   unused x y z w b zero h e = limit_unused c _ l.x lim.at_x x b.0 e
   unused x y z w b (suc zero) h e = limit_unused c _ l.y lim.at_y y b.1 e
-  unused x y z w b (suc (suc zero)) h e = limit_unused c _ l.z lim.at-z z b.2 e
+  unused x y z w b (suc (suc zero)) h e = limit_unused c _ l.z lim.at_z z b.2 e
   unused x y z w b (suc (suc (suc v))) h e =
       let three : suc (suc (suc v)) ≡ 3 = omega arith in
-      limit_unused c _ l.w lim.at-w w b.3 (ap (λ (u : ℕ). uses u cl) (sym three) ∙ e)
+      limit_unused c _ l.w lim.at_w w b.3 (ap (λ (u : ℕ). uses u cl) (sym three) ∙ e)
 
   proper : (x y z w : ℕ) → Below l x y z w → Proper c cl (four x y z w)
   proper x y z w b = record { assigns = assigns x y z w b; unused = unused x y z w b }
@@ -60,8 +60,8 @@ module _ (c : Counts) (cl : Clause) (l : Four) (lim : Limits c cl l) where
   below τ p = (
     limit_in c _ l.x lim.at_x (τ 0) (p.assigns 0 (omega arith)) (p.unused 0 (omega arith)),
     limit_in c _ l.y lim.at_y (τ 1) (p.assigns 1 (omega arith)) (p.unused 1 (omega arith)),
-    limit_in c _ l.z lim.at-z (τ 2) (p.assigns 2 (omega arith)) (p.unused 2 (omega arith)),
-    limit_in c _ l.w lim.at-w (τ 3) (p.assigns 3 (omega arith)) (p.unused 3 (omega arith)),
+    limit_in c _ l.z lim.at_z (τ 2) (p.assigns 2 (omega arith)) (p.unused 2 (omega arith)),
+    limit_in c _ l.w lim.at_w (τ 3) (p.assigns 3 (omega arith)) (p.unused 3 (omega arith)),
   )
 
 -- the order of assignments is that of the ranks

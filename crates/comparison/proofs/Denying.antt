@@ -38,12 +38,12 @@ deny_more c d clauses σ i j l n cs ds es held holds r dc lawful assigns few at 
     let g : GroundLiteral d n =
     subst (λ (x : Literal). GroundLiteral d x) (sym is) (subst (λ (k : Counts). GroundLiteral k (denial σ l)) (sym dc) (instance_lawful c σ l assigns (literal_lawful c clauses i j l lawful at))) in
     let long : length ds ≡ length cs + length (denials σ (take j cl)) = ap length before.so ∙ length-append cs (denials σ (take j cl)) in
-    let s = supposed_done d ds held n r es holds done g (omega (arith, before.so-many)) (omega (arith, long, denials_length σ (take j cl), length-take j cl)) in
+    let s = supposed_done d ds held n r es holds done g (omega (arith, before.so_many)) (omega (arith, long, denials_length σ (take j cl), length-take j cl)) in
     let front = denials σ (take j cl) in
     let last : List Clause = (denial σ l ∷ []) ∷ [] in
     let more : denials σ (take (j + 1) cl) ≡ front ++ last = ap (denials σ) (take_more cl j l h.1 ∙ ap (λ (x : Literal). take j cl ++ x ∷ []) (sym h.2)) ∙ denials_push σ (take j cl) l in
     record {
-      so_many = ap length s.1 ∙ length-append held (n ∷ []) ∙ omega (arith, before.so-many);
+      so_many = ap length s.1 ∙ length-append held (n ∷ []) ∙ omega (arith, before.so_many);
       so = s.0 ∙ ap (λ (x : Literal). ds ++ (x ∷ []) ∷ []) is ∙ ap (λ (xs : List Clause). xs ++ last) before.so ∙ append_assoc cs front last ∙ ap (λ (xs : List Clause). cs ++ xs) (sym more);
     }
 

@@ -1,2 +1,3 @@
 pub mod Laws
+pub mod Marked
 pub mod Bytes

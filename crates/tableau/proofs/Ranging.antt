@@ -35,28 +35,28 @@ narrow c cl = record {
 
 module _ (r : Ranges) (n : Narrow r) where
   pub two : r.x * r.y ≤ 1024
-  two = mul-le r.x r.y 32 32 n.x-few n.y-few
+  two = mul-le r.x r.y 32 32 n.x_few n.y_few
 
   pub three : r.x * r.y * r.z ≤ 32768
-  three = mul-le (r.x * r.y) r.z 1024 32 two n.z-few
+  three = mul-le (r.x * r.y) r.z 1024 32 two n.z_few
 
   pub whole : size r ≤ 1048576
-  whole = mul-le (r.x * r.y * r.z) r.w 32768 32 three n.w-few
+  whole = mul-le (r.x * r.y * r.z) r.w 32768 32 three n.w_few
 
   module _ (k : ℕ) (inside : k < size r) where
     pub in_x : (nth_assignment r k).x < r.x
     in_x =
-        div_below (k / r.w / r.z) r.y r.x n.y-some
-        (div_below (k / r.w) r.z (r.x * r.y) n.z-some (div_below k r.w (r.x * r.y * r.z) n.w-some inside))
+        div_below (k / r.w / r.z) r.y r.x n.y_some
+        (div_below (k / r.w) r.z (r.x * r.y) n.z_some (div_below k r.w (r.x * r.y * r.z) n.w_some inside))
 
     pub in_y : (nth_assignment r k).y < r.y
-    in_y = mod_below (k / r.w / r.z) r.y n.y-some
+    in_y = mod_below (k / r.w / r.z) r.y n.y_some
 
     pub in_z : (nth_assignment r k).z < r.z
-    in_z = mod_below (k / r.w) r.z n.z-some
+    in_z = mod_below (k / r.w) r.z n.z_some
 
     pub in_w : (nth_assignment r k).w < r.w
-    in_w = mod_below k r.w n.w-some
+    in_w = mod_below k r.w n.w_some
 
 -- the names lie below N
 pub nth_below : (c : Counts) (cl : Clause) (k : ℕ) → k < size (ranges c cl) → Below c (nth_assignment (ranges c cl) k)

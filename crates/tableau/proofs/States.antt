@@ -61,10 +61,10 @@ pub record Back (M : Models) (K : Clashes) (atoms : ℕ) (c : Choice) (m : Momen
 
 module _ {M : Models} {K : Clashes} {atoms : ℕ} {m : Moment} (st : State M K atoms m) where
   base_reaches : atoms ≤ length st.base
-  base_reaches = omega (arith, st.roomy.reaches, st.reach-is, ap length st.marks-is, length_marks st.base st.steps)
+  base_reaches = omega (arith, st.roomy.reaches, st.reach_is, ap length st.marks_is, length_marks st.base st.steps)
 
   pub reaches : atoms ≤ length m.marks
-  reaches = omega (arith, st.roomy.reaches, st.reach-is)
+  reaches = omega (arith, st.roomy.reaches, st.reach_is)
 
   pub height_is : length m.trail ≡ length st.steps
   height_is = ap length st.trail_is ∙ length_trail st.steps
@@ -74,13 +74,13 @@ module _ {M : Models} {K : Clashes} {atoms : ℕ} {m : Moment} (st : State M K a
 
   -- nothing past the atoms stands
   pub nothing_past : OpenFrom atoms m.marks
-  nothing_past k le = ap (λ n. get_or n k Open) st.marks-is ∙ beyond M K atoms st.base st.clear base_reaches st.steps st.sound k le
+  nothing_past k le = ap (λ n. get_or n k Open) st.marks_is ∙ beyond M K atoms st.base st.clear base_reaches st.steps st.sound k le
 
   -- what holds of the models that agree with the marks holds of those that make the choices hold
   agreeing : (v : Valuation) → M v → Held v st.steps → Agrees m.marks v
   agreeing v is held =
       let P : List Mark → Type 0 = λ ms. Agrees ms v in
-      subst P (sym st.marks-is) (agrees M K atoms st.base st.clear base_reaches st.steps st.sound v is held)
+      subst P (sym st.marks_is) (agrees M K atoms st.base st.clear base_reaches st.steps st.sound v is held)
 
   pub refuted : NoModel M m.marks → Refuted M st.steps
   refuted h v is held = h v is (agreeing v is held)
@@ -89,23 +89,23 @@ module _ {M : Models} {K : Clashes} {atoms : ℕ} {m : Moment} (st : State M K a
   forces l h v is held = h v is (agreeing v is held)
 
   lies_there : (l : SignedAtom) → OpenIn m.marks l → OpenIn (marks_of st.base st.steps) l
-  lies_there l lies = ap (λ ms. get_or ms l.atom Open) (sym st.marks-is) ∙ lies
+  lies_there l lies = ap (λ ms. get_or ms l.atom Open) (sym st.marks_is) ∙ lies
 
   module _ (l : SignedAtom) (lt : l.atom < atoms) (lies : OpenIn m.marks l) where
     pub shorter : length m.trail < atoms
     shorter = omega (arith, height_is, steps_lt M K atoms st.base st.clear base_reaches st.steps l st.sound lt (lies_there l lies))
 
-    pub puttable : Puttable l m.marks m.frame.room m.trail m.frame.trail-slots
+    pub puttable : Puttable l m.marks m.frame.room m.trail m.frame.trail_slots
     puttable =
         record {
           inside = omega (arith, reaches);
           lies = lies;
-          few = omega (arith, shorter, st.roomy.table-room, height_is, ap standing st.marks-is, standing_steps M K atoms st.base st.clear base_reaches st.steps st.sound);
-          slot = omega (arith, shorter, st.roomy.trail-room);
+          few = omega (arith, shorter, st.roomy.table_room, height_is, ap standing st.marks_is, standing_steps M K atoms st.base st.clear base_reaches st.steps st.sound);
+          slot = omega (arith, shorter, st.roomy.trail_room);
         }
 
-    pub choice_slot : length m.choices < m.frame.choice-slots
-    choice_slot = omega (arith, shorter, st.roomy.choice-room, height_is, ap length st.choices-is, choices_le st.steps)
+    pub choice_slot : length m.choices < m.frame.choice_slots
+    choice_slot = omega (arith, shorter, st.roomy.choice_room, height_is, ap length st.choices_is, choices_le st.steps)
 
     pub height_fits : length m.trail < 65536
     height_fits = omega (arith, shorter, st.roomy.short)
@@ -119,7 +119,7 @@ module _ {M : Models} {K : Clashes} {atoms : ℕ} {m : Moment} (st : State M K a
             base = st.base;
             clear = st.clear;
             sound = (why, subst (λ (k : SignedAtom). k.atom < atoms) (sym e) lt, subst (OpenIn (marks_of st.base st.steps)) (sym e) (lies_there l lies), st.sound);
-            marks_is = em ∙ ap (λ ms. set ms l.atom (signed l.sign)) st.marks-is ∙ ap (λ (k : SignedAtom). set (marks_of st.base st.steps) k.atom (signed k.sign)) (sym e);
+            marks_is = em ∙ ap (λ ms. set ms l.atom (signed l.sign)) st.marks_is ∙ ap (λ (k : SignedAtom). set (marks_of st.base st.steps) k.atom (signed k.sign)) (sym e);
             trail_is = et ∙ ap (λ t. t ++ (l.atom ∷ [])) st.trail_is ∙ ap (λ (k : SignedAtom). trail_of st.steps ++ (k.atom ∷ [])) (sym e);
             choices_is = ch;
             roomy = subst (Roomy atoms) (sym ef) st.roomy;
@@ -127,47 +127,47 @@ module _ {M : Models} {K : Clashes} {atoms : ℕ} {m : Moment} (st : State M K a
           }
 
       reach_put : m'.marks ≡ set m.marks l.atom (signed l.sign) → m'.frame ≡ m.frame → m'.frame.reach ≡ length m'.marks
-      reach_put em ef = ap (λ (g : Frame). g.reach) ef ∙ st.reach-is ∙ sym (ap length em ∙ length-set m.marks l.atom (signed l.sign))
+      reach_put em ef = ap (λ (g : Frame). g.reach) ef ∙ st.reach_is ∙ sym (ap length em ∙ length-set m.marks l.atom (signed l.sign))
 
       pub forced_step : Put l m m' → Forces M st.steps l → State M K atoms m'
-      forced_step p why = stepped (forced l) refl why p.marks-are p.trail_is p.frame_is (reach_put p.marks-are p.frame_is) (p.choices-are ∙ st.choices-is)
+      forced_step p why = stepped (forced l) refl why p.marks_are p.trail_is p.frame_is (reach_put p.marks_are p.frame_is) (p.choices_are ∙ st.choices_is)
 
       pub forced_lighter : Put l m m' → weight atoms m'.trail m'.choices < weight atoms m.trail m.choices
       forced_lighter p =
-          let w : weight atoms m'.trail m'.choices ≡ weight atoms (m.trail ++ (l.atom ∷ [])) m.choices = ap (λ t. weight atoms t m'.choices) p.trail_is ∙ ap (weight atoms (m.trail ++ (l.atom ∷ []))) p.choices-are in
+          let w : weight atoms m'.trail m'.choices ≡ weight atoms (m.trail ++ (l.atom ∷ [])) m.choices = ap (λ t. weight atoms t m'.choices) p.trail_is ∙ ap (weight atoms (m.trail ++ (l.atom ∷ []))) p.choices_are in
           omega (arith, w, forced_falls atoms m.trail l.atom m.choices shorter)
 
       pub chosen_step : Chosen l m m' → (K m.marks → ⊥) → State M K atoms m'
       chosen_step p calm =
-          stepped (chosen l) refl (λ k. calm (subst K (sym st.marks-is) k)) p.marks-are p.trail_is p.frame_is (reach_put p.marks-are p.frame_is)
-          (p.choices-are ∙ ap (λ c. c ++ (choice (length m.trail) l ∷ [])) st.choices-is ∙ ap (λ n. choices_of st.steps ++ (choice n l ∷ [])) height_is)
+          stepped (chosen l) refl (λ k. calm (subst K (sym st.marks_is) k)) p.marks_are p.trail_is p.frame_is (reach_put p.marks_are p.frame_is)
+          (p.choices_are ∙ ap (λ c. c ++ (choice (length m.trail) l ∷ [])) st.choices_is ∙ ap (λ n. choices_of st.steps ++ (choice n l ∷ [])) height_is)
 
       pub chosen_lighter : Chosen l m m' → weight atoms m'.trail m'.choices < weight atoms m.trail m.choices
       chosen_lighter p =
-          let w : weight atoms m'.trail m'.choices ≡ weight atoms (m.trail ++ (l.atom ∷ [])) (m.choices ++ (choice (length m.trail) l ∷ [])) = ap (λ t. weight atoms t m'.choices) p.trail_is ∙ ap (weight atoms (m.trail ++ (l.atom ∷ []))) p.choices-are in
+          let w : weight atoms m'.trail m'.choices ≡ weight atoms (m.trail ++ (l.atom ∷ [])) (m.choices ++ (choice (length m.trail) l ∷ [])) = ap (λ t. weight atoms t m'.choices) p.trail_is ∙ ap (weight atoms (m.trail ++ (l.atom ∷ []))) p.choices_are in
           omega (arith, w, chosen_falls atoms m.trail l.atom m.choices (choice (length m.trail) l) shorter refl)
 
   -- no choice is left: everything is taken off
   pub failed : m.choices ≡ [] → NoModel M m.marks → Modelless M
-  failed none h = refuted_none M st.steps (sym st.choices-is ∙ none) (refuted h)
+  failed none h = refuted_none M st.steps (sym st.choices_is ∙ none) (refuted h)
 
   pub all_off : (ms' : List Mark) → ms' ≡ opened m.marks (drop 0 m.trail) → Clear ms' × (length ms' ≡ length m.marks)
   all_off ms' e =
-      let is : ms' ≡ st.base = e ∙ ap (λ n. opened n m.trail) st.marks-is ∙ ap (opened (marks_of st.base st.steps)) st.trail_is ∙ opened_all M K atoms st.base st.steps st.sound in
-      (subst Clear (sym is) st.clear, ap length is ∙ sym (ap length st.marks-is ∙ length_marks st.base st.steps))
+      let is : ms' ≡ st.base = e ∙ ap (λ n. opened n m.trail) st.marks_is ∙ ap (opened (marks_of st.base st.steps)) st.trail_is ∙ opened_all M K atoms st.base st.steps st.sound in
+      (subst Clear (sym is) st.clear, ap length is ∙ sym (ap length st.marks_is ∙ length_marks st.base st.steps))
 
   -- the latest choice is taken back: what is left is a state that forces the opposite
   module _ (before : List Choice) (c : Choice) (is : m.choices ≡ before ++ (c ∷ [])) where
     the_cut : Cut M K atoms st.base st.steps before c
-    the_cut = cut M K atoms st.base st.steps before c st.sound (sym st.choices-is ∙ is)
+    the_cut = cut M K atoms st.base st.steps before c st.sound (sym st.choices_is ∙ is)
 
     module _ (ms' : List Mark) (em : ms' ≡ opened m.marks (drop c.height m.trail)) where
       rest_marks : ms' ≡ marks_of st.base the_cut.rest
       rest_marks =
-          em ∙ ap (λ n. opened n (drop c.height m.trail)) st.marks-is ∙ ap (λ t. opened (marks_of st.base st.steps) (drop c.height t)) st.trail_is ∙ the_cut.marks
+          em ∙ ap (λ n. opened n (drop c.height m.trail)) st.marks_is ∙ ap (λ t. opened (marks_of st.base st.steps) (drop c.height t)) st.trail_is ∙ the_cut.marks
 
       pub back_length : length ms' ≡ length m.marks
-      back_length = ap length rest_marks ∙ length_marks st.base the_cut.rest ∙ sym (ap length st.marks-is ∙ length_marks st.base st.steps)
+      back_length = ap length rest_marks ∙ length_marks st.base the_cut.rest ∙ sym (ap length st.marks_is ∙ length_marks st.base st.steps)
 
     pub back : {m' : Moment} → m'.marks ≡ opened m.marks (drop c.height m.trail) → m'.trail ≡ take c.height m.trail → m'.choices ≡ before → m'.frame ≡ m.frame → NoModel M m.marks → Back M K atoms c m'
     back {m'} em et ech ef h =
@@ -183,7 +183,7 @@ module _ {M : Models} {K : Clashes} {atoms : ℕ} {m : Moment} (st : State M K a
             trail_is = t;
             choices_is = ech ∙ k.choices;
             roomy = subst (Roomy atoms) (sym ef) st.roomy;
-            reach_is = ap (λ (g : Frame). g.reach) ef ∙ st.reach-is ∙ sym (back_length m'.marks em);
+            reach_is = ap (λ (g : Frame). g.reach) ef ∙ st.reach_is ∙ sym (back_length m'.marks em);
           };
           calm = λ clash. k.calm (subst K (rest_marks m'.marks em) clash);
           below = k.below;
@@ -199,5 +199,5 @@ pub back_lighter : {M : Models} {K : Clashes} {atoms : ℕ} {c : Choice} {m m' :
 back_lighter {atoms = atoms} {c = c} {m = m} {m' = m'} b p old choices is =
     let n : length m'.trail ≡ c.height + 1 = ap length p.trail_is ∙ length_push m.trail c.atom ∙ ap (λ k. k + 1) b.height in
     let w : weight atoms old choices ≡ weight atoms old (m.choices ++ (c ∷ [])) = ap (weight atoms old) is in
-    let u : weight atoms m'.trail m'.choices ≡ weight atoms m'.trail m.choices = ap (weight atoms m'.trail) p.choices-are in
+    let u : weight atoms m'.trail m'.choices ≡ weight atoms m'.trail m.choices = ap (weight atoms m'.trail) p.choices_are in
     omega (arith, w, u, back_falls atoms old m'.trail m.choices c n)

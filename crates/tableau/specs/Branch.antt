@@ -80,8 +80,8 @@ pub record Roomy (atoms : ℕ) (f : Frame) : Type 0 where
   pub short : atoms ≤ 65535
   pub reaches : atoms ≤ f.reach
   pub table_room : atoms ≤ f.room
-  pub trail_room : atoms ≤ f.trail-slots
-  pub choice_room : atoms ≤ f.choice-slots
+  pub trail_room : atoms ≤ f.trail_slots
+  pub choice_room : atoms ≤ f.choice_slots
 
 -- the search at a moment: what stays, the marks, the trail, the choices
 pub record Moment : Type 0 where

@@ -16,18 +16,18 @@ returns-then-zero-ne0 c = (
   λ m. absurd (c.if-zero-ne0.true (clause_head c.args.counts c.args.bytes.now m).2),
 )
 
-pub returns-then-are-literals : goal.returns-then-are-literals
-returns-then-are-literals c =
+pub returns-then-are_literals : goal.returns-then-are_literals
+returns-then-are_literals c =
     let b = c.args.bytes.now in
     let e = take_rest b 2 in
-    let s = c.split-at.ensures in (
-      λ t. clause_made c.args.counts b (take (length b - 2) (drop 2 b)) _ _ c.requires e s.front s.back c.if-n-lt1.false c.if-n-gt8.false c.if-zero-ne0.false (c.are-literals.ensures.0 c.if-are-literals.true) (c.are-zeros.ensures.0 t),
-      λ m. c.are-zeros.ensures.1 (clause_unused c.args.counts b (take (length b - 2) (drop 2 b)) _ c.requires e s.back m),
+    let s = c.split_at.ensures in (
+      λ t. clause_made c.args.counts b (take (length b - 2) (drop 2 b)) _ _ c.requires e s.front s.back c.if-n-lt1.false c.if-n-gt8.false c.if-zero-ne0.false (c.are_literals.ensures.0 c.if-are_literals.true) (c.are_zeros.ensures.0 t),
+      λ m. c.are_zeros.ensures.1 (clause_unused c.args.counts b (take (length b - 2) (drop 2 b)) _ c.requires e s.back m),
     )
 
-pub returns-else-are-literals : goal.returns-else-are-literals
-returns-else-are-literals c =
+pub returns-else-are_literals : goal.returns-else-are_literals
+returns-else-are_literals c =
     let b = c.args.bytes.now in (
-      λ t. absurd (both_ways _ c.if-are-literals.false t),
-      λ m. c.are-literals.ensures.1 (clause_used c.args.counts b (take (length b - 2) (drop 2 b)) _ (take_rest b 2) c.split-at.ensures.front m),
+      λ t. absurd (both_ways _ c.if-are_literals.false t),
+      λ m. c.are_literals.ensures.1 (clause_used c.args.counts b (take (length b - 2) (drop 2 b)) _ (take_rest b 2) c.split_at.ensures.front m),
     )

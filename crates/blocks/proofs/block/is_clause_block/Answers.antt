@@ -17,22 +17,22 @@ returns-then-parts-n c = (
       absurd (c.if-parts-n.true p.1),
 )
 
-pub split-at-requires : goal.split-at-requires
-split-at-requires c = omega (arith, c.requires.size, ap length c.in-Some.ensures)
+pub split_at-requires : goal.split_at-requires
+split_at-requires c = omega (arith, c.requires.size, ap length c.in-Some.ensures)
 
-pub split-at-requires-in-Some : goal.split-at-requires-in-Some
-split-at-requires-in-Some c = omega (arith, c.requires.few, c.split-at.ensures.front-len)
+pub split_at-requires-in-Some : goal.split_at-requires-in-Some
+split_at-requires-in-Some c = omega (arith, c.requires.few, c.split_at.ensures.front_len)
 
-pub returns-then-are-clauses : goal.returns-then-are-clauses
-returns-then-are-clauses c = (
-  λ t. clauses_made c.args.counts c.args.n c.args.block.now _ _ _ _ _ _ c.requires.size c.in-Some.ensures c.split-at.ensures.front c.split-at-in-Some.ensures.front c.split-at-in-Some.ensures.back c.requires.few c.if-parts-ne1.false c.if-parts-n.false (c.are-clauses.ensures.0 c.if-are-clauses.true) (c.are-zeros.ensures.0 t),
-  λ w. c.are-zeros.ensures.1 (clauses_unused c.args.counts c.args.n c.args.block.now _ _ _ _ _ c.requires.size c.in-Some.ensures c.split-at.ensures.front c.split-at-in-Some.ensures.back w),
+pub returns-then-are_clauses : goal.returns-then-are_clauses
+returns-then-are_clauses c = (
+  λ t. clauses_made c.args.counts c.args.n c.args.block.now _ _ _ _ _ _ c.requires.size c.in-Some.ensures c.split_at.ensures.front c.split_at-in-Some.ensures.front c.split_at-in-Some.ensures.back c.requires.few c.if-parts-ne1.false c.if-parts-n.false (c.are_clauses.ensures.0 c.if-are_clauses.true) (c.are_zeros.ensures.0 t),
+  λ w. c.are_zeros.ensures.1 (clauses_unused c.args.counts c.args.n c.args.block.now _ _ _ _ _ c.requires.size c.in-Some.ensures c.split_at.ensures.front c.split_at-in-Some.ensures.back w),
 )
 
-pub returns-else-are-clauses : goal.returns-else-are-clauses
-returns-else-are-clauses c = (
-  λ t. absurd (both_ways _ c.if-are-clauses.false t),
-  λ w. c.are-clauses.ensures.1 (clauses_used c.args.counts c.args.n c.args.block.now _ _ _ _ _ c.in-Some.ensures c.split-at.ensures.front c.split-at-in-Some.ensures.front w),
+pub returns-else-are_clauses : goal.returns-else-are_clauses
+returns-else-are_clauses c = (
+  λ t. absurd (both_ways _ c.if-are_clauses.false t),
+  λ w. c.are_clauses.ensures.1 (clauses_used c.args.counts c.args.n c.args.block.now _ _ _ _ _ c.in-Some.ensures c.split_at.ensures.front c.split_at-in-Some.ensures.front w),
 )
 
 pub returns-in-None : goal.returns-in-None

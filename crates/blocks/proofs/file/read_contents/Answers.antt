@@ -9,15 +9,15 @@ returns-then-len-gt256 c = λ d n w.
     let p = body_parts c.args.body.now d n w.1 in
     omega (arith, p.low, p.high, w.0, c.if-len-gt256.true)
 
-pub returns-then-not-are-zeros : goal.returns-then-not-are-zeros
-returns-then-not-are-zeros c = λ d n w.
+pub returns-then-not-are_zeros : goal.returns-then-not-are_zeros
+returns-then-not-are_zeros c = λ d n w.
     let b = c.args.body.now in
-    false≢true (c.if-not-are-zeros.ensures.1 (body_rest b (take (length b - 5) (drop 5 b)) d n c.requires (take_rest b 5) w))
+    false≢true (c.if-not-are_zeros.ensures.1 (body_rest b (take (length b - 5) (drop 5 b)) d n c.requires (take_rest b 5) w))
 
 pub returns-in-Ok : goal.returns-in-Ok
 returns-in-Ok c =
     let b = c.args.body.now in
-    body_made b (take (length b - 5) (drop 5 b)) c.in-Ok.counts _ c.requires (take_rest b 5) c.in-Ok.ensures.1 refl (search rules) c.if-len-gt256.false (c.are-zeros.ensures.0 c.if-not-are-zeros.false)
+    body_made b (take (length b - 5) (drop 5 b)) c.in-Ok.counts _ c.requires (take_rest b 5) c.in-Ok.ensures.1 refl (search rules) c.if-len-gt256.false (c.are_zeros.ensures.0 c.if-not-are_zeros.false)
 
 pub returns-in-Err : goal.returns-in-Err
 returns-in-Err c = λ d n w.

@@ -22,14 +22,14 @@ here c bytes block n b m e f w =
     let Q : List ℕ → Type 0 = λ xs. Clauses c (due n b) xs in
     subst P (sym f) (subst Q (sym e) w)
 
-pub returns-then-not-is-clause-block : goal.returns-then-not-is-clause-block
-returns-then-not-is-clause-block c =
+pub returns-then-not-is_clause_block : goal.returns-then-not-is_clause_block
+returns-then-not-is_clause_block c =
     let bytes = c.args.bytes.now in
     let b = c.loop-b.b in
-    (c.loop-b-test.true, λ w. false≢true (c.if-not-is-clause-block.ensures.1 (here c.args.counts bytes _ c.args.n b _ (at bytes b) (omega (arith, c.min-here.ensures)) w)), c.loop-b.invariant)
+    (c.loop-b-test.true, λ w. false≢true (c.if-not-is_clause_block.ensures.1 (here c.args.counts bytes _ c.args.n b _ (at bytes b) (omega (arith, c.min-here.ensures)) w)), c.loop-b.invariant)
 
 pub loop-b-preserved : goal.loop-b-preserved
 loop-b-preserved c =
     let bytes = c.args.bytes.now in
     let b = c.loop-b.b in
-    below_more (λ k. Clauses c.args.counts (due c.args.n k) (block_at bytes (suc k))) b c.loop-b.invariant (there c.args.counts bytes _ c.args.n b _ (at bytes b) (omega (arith, c.min-here.ensures)) (c.is-clause-block.ensures.0 c.if-not-is-clause-block.false))
+    below_more (λ k. Clauses c.args.counts (due c.args.n k) (block_at bytes (suc k))) b c.loop-b.invariant (there c.args.counts bytes _ c.args.n b _ (at bytes b) (omega (arith, c.min-here.ensures)) (c.is_clause_block.ensures.0 c.if-not-is_clause_block.false))

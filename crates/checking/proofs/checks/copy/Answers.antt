@@ -7,14 +7,14 @@ use Rattle.checking.proofs.checks.copy.Goals as goal
 here : (g : given.Over) (c : goal.In-Some g) → Answered (get_or (g.B.Book.clauses c.args.book.now) c.args.i []) c.loop-l.n c.in-Some.l
 here g c = answered (g.B.Book.counts c.args.book.now) (g.B.Book.clauses c.args.book.now) c.args.i c.loop-l.n c.in-Some.l (g.B.Book.lawful c.args.book.now) c.in-Some.ensures
 
-pub offset-bounds-held-n : goal.offset-bounds-held-n
-offset-bounds-held-n g c = let h = here g c in omega arith
+pub offset_bounds-held-n : goal.offset_bounds-held-n
+offset_bounds-held-n g c = let h = here g c in omega arith
 
 pub bounds-held-n : goal.bounds-held-n
 bounds-held-n g c = let h = here g c in omega arith
 
-pub overflow-add-n : goal.overflow-add-n
-overflow-add-n g c = let h = here g c in omega arith
+pub overflow_add-n : goal.overflow_add-n
+overflow_add-n g c = let h = here g c in omega arith
 
 pub loop-l-smaller : goal.loop-l-smaller
 loop-l-smaller g c = let h = here g c in omega arith
@@ -28,4 +28,4 @@ pub returns : goal.returns
 returns g c =
     let cs = g.B.Book.clauses c.args.book.now in
     let law = clause_lawful (g.B.Book.counts c.args.book.now) cs c.args.i (g.B.Book.lawful c.args.book.now) c.requires.below in
-    record { few = omega (arith, law.few); copied = copied_all cs c.loop-l.held c.args.i c.loop-l.n c.in-default.ensures c.loop-l.invariant.1 }
+    record { few = omega (arith, law.few); copied = copied_all cs c.loop-l.held c.args.i c.loop-l.n c.in_default.ensures c.loop-l.invariant.1 }

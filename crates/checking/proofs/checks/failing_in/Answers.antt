@@ -4,8 +4,8 @@ use Rattle.books.proofs.Readings.{clause_lawful}
 use Rattle.checking.proofs.Copying.{part, found_in, lawful_copy}
 use Rattle.checking.proofs.checks.failing_in.Goals as goal
 
-pub first-failing-requires : goal.first-failing-requires
-first-failing-requires g c =
+pub first_failing-requires : goal.first_failing-requires
+first_failing-requires g c =
     let book = c.args.book.now in
     let cs = g.B.Book.clauses book in
     record {
@@ -19,5 +19,5 @@ pub returns : goal.returns
 returns g c =
     let book = c.args.book.now in
     let cl = get_or (g.B.Book.clauses book) c.args.i [] in
-    found_in (g.B.Book.counts book) c.counts.result c.args.bytes.now cl _ c.first-failing.result c.counts.ensures
-    (part cl c.copy-n.new.held c.copy-n.result c.copy-n.ensures.copied) c.first-failing.ensures
+    found_in (g.B.Book.counts book) c.counts.result c.args.bytes.now cl _ c.first_failing.result c.counts.ensures
+    (part cl c.copy-n.new.held c.copy-n.result c.copy-n.ensures.copied) c.first_failing.ensures

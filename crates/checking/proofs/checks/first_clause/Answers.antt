@@ -6,7 +6,7 @@ pub returns-in-Some : goal.returns-in-Some
 returns-in-Some g c I b = record { below = omega arith; earlier = c.loop-i.invariant I b; first = c.in-Some.ensures I b }
 
 pub loop-i-preserved : goal.loop-i-preserved
-loop-i-preserved g c I b = below_more _ _ (c.loop-i.invariant I b) (c.in-default.ensures I b)
+loop-i-preserved g c I b = below_more _ _ (c.loop-i.invariant I b) (c.in_default.ensures I b)
 
 pub returns : goal.returns
 returns g c I b =

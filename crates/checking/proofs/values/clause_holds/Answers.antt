@@ -10,23 +10,23 @@ use Rattle.semantics.specs.Meaning.{Holds}
 use Rattle.checking.specs.Values.{assigned}
 use Rattle.checking.proofs.values.clause_holds.Goals as goal
 
-pub literal-holds-requires : goal.literal-holds-requires
-literal-holds-requires c = record {
+pub literal_holds-requires : goal.literal_holds-requires
+literal_holds-requires c = record {
   long = c.requires.long;
   lawful = All-get_or (LawfulLiteral c.args.counts) c.args.literals.now c.loop-l.l-index _ c.loop-l-test.true c.requires.lawful.each;
   assigns = c.requires.assigns;
 }
 
-pub returns-then-literal-holds : goal.returns-then-literal-holds
-returns-then-literal-holds c I b = (
-  λ _. (_, has_get_or c.args.literals.now c.loop-l.l-index _ c.loop-l-test.true, (c.literal-holds.ensures I b).0 c.if-literal-holds.true),
+pub returns-then-literal_holds : goal.returns-then-literal_holds
+returns-then-literal_holds c I b = (
+  λ _. (_, has_get_or c.args.literals.now c.loop-l.l-index _ c.loop-l-test.true, (c.literal_holds.ensures I b).0 c.if-literal_holds.true),
   λ _. refl,
 )
 
 pub loop-l-preserved : goal.loop-l-preserved
 loop-l-preserved c I b =
     All-more (λ m. Holds I (assigned c.args.names) m → ⊥) c.args.literals.now c.loop-l.l-index _ c.loop-l-test.true
-    (c.loop-l.invariant I b) (not_from_Decides _ (c.literal-holds.ensures I b) c.if-literal-holds.false)
+    (c.loop-l.invariant I b) (not_from_Decides _ (c.literal_holds.ensures I b) c.if-literal_holds.false)
 
 pub returns : goal.returns
 returns c I b =

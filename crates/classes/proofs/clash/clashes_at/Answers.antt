@@ -15,8 +15,8 @@ returns-in-Rel g c =
     rel_decides _ _ _ c.args.atom c.args.sign c.meets-in-Rel.result c.opposite-in-Rel.result c.opposite-in-Rel.ensures
     c.in-Some.ensures.0 c.in-Rel.r c.in-Rel.a c.in-Rel.b c.in-Rel.is c.meets-in-Rel.ensures
 
-pub returns-in-default : goal.returns-in-default
-returns-in-default g c = found_no (λ t. c.in-default.ensures (at_lawful _ _ _ c.args.atom c.args.sign t))
+pub returns-in_default : goal.returns-in_default
+returns-in_default g c = found_no (λ t. c.in_default.ensures (at_lawful _ _ _ c.args.atom c.args.sign t))
 
 pub returns-then-not-sign : goal.returns-then-not-sign
 returns-then-not-sign g c =

@@ -1,4 +1,6 @@
 use Rattle.std.proofs.Common.{◌≡◌, ◌<◌, sym, ◌∙◌, arith, below_more}
+use Rattle.syntax.specs.declared.types.Mark.TheVariants.{No}
+use Rattle.syntax.proofs.Marked.{marks_same, marks_apart}
 use Rattle.classes.proofs.Deciding.{found_yes, found_no}
 use Rattle.classes.proofs.clash.row_clashes.Goals as goal
 use Rattle.classes.proofs.clash.row_clashes.Goals.{else-leader-via-then-leader+else-eq, else-leader-via-else-leader}
@@ -9,7 +11,7 @@ loop-b-init g c = λ y h. absurd (omega arith)
 pub returns-then-eq : goal.returns-then-eq
 returns-then-eq g c =
     let hb : c.loop-b.b < c.args.counts.names = omega arith in
-    found_yes (c.loop-b.b, hb, sym c.leader.ensures ∙ c.if-leader.true ∙ c.leader-in-loop-b.ensures, sym (c.mark-of.ensures.lawful (c.requires, hb)) ∙ c.if-eq.ensures)
+    found_yes (c.loop-b.b, hb, sym c.leader.ensures ∙ c.if-leader.true ∙ c.leader-in-loop-b.ensures, sym (c.mark_of.ensures.lawful (c.requires, hb)) ∙ marks_same c.mark_of.result No c.if-eq.ensures)
 
 pub loop-b-preserved : goal.loop-b-preserved
 loop-b-preserved g c =
@@ -17,7 +19,7 @@ loop-b-preserved g c =
     (elim c.else-leader.branch [
       | else-leader-via-then-leader+else-eq w ↦ λ e m.
           let hb : c.loop-b.b < c.args.counts.names = omega arith in
-          w.if-eq.ensures (w.mark-of.ensures.lawful (c.requires, hb) ∙ m)
+          marks_apart w.mark_of.result No w.if-eq.ensures (w.mark_of.ensures.lawful (c.requires, hb) ∙ m)
       | else-leader-via-else-leader w ↦ λ e m. w.if-leader.false (c.leader.ensures ∙ e ∙ sym c.leader-in-loop-b.ensures)
     ])
 

@@ -6,11 +6,11 @@ use Rattle.classes.proofs.clash.sames_clash.Goals as goal
 pub loop-a-init : goal.loop-a-init
 loop-a-init g c = λ k h. absurd (omega arith)
 
-pub returns-then-row-clashes : goal.returns-then-row-clashes
-returns-then-row-clashes g c = found_yes (c.loop-a.a, omega arith, c.row-clashes.ensures.0 c.if-row-clashes.true)
+pub returns-then-row_clashes : goal.returns-then-row_clashes
+returns-then-row_clashes g c = found_yes (c.loop-a.a, omega arith, c.row_clashes.ensures.0 c.if-row_clashes.true)
 
 pub loop-a-preserved : goal.loop-a-preserved
-loop-a-preserved g c = below_more _ _ c.loop-a.invariant (not_from_Decides c.row-clashes.result c.row-clashes.ensures c.if-row-clashes.false)
+loop-a-preserved g c = below_more _ _ c.loop-a.invariant (not_from_Decides c.row_clashes.result c.row_clashes.ensures c.if-row_clashes.false)
 
 pub returns : goal.returns
 returns g c = none_below _ c.args.counts.names c.loop-a.a (omega arith) c.loop-a.invariant

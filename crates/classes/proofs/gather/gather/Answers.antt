@@ -7,8 +7,8 @@ loop-x-init g c = (λ k e. absurd (both_ways _ (c.clear.ensures k) e), λ x h. a
 
 pub loop-x-preserved : goal.loop-x-preserved
 loop-x-preserved g c = (
-  c.gather-row.ensures.only,
-  below_more _ _ (λ x h y k e. c.gather-row.ensures.more _ (c.loop-x.invariant.1 x h y k e)) c.gather-row.ensures.all,
+  c.gather_row.ensures.only,
+  below_more _ _ (λ x h y k e. c.gather_row.ensures.more _ (c.loop-x.invariant.1 x h y k e)) c.gather_row.ensures.all,
 )
 
 pub returns : goal.returns

@@ -11,7 +11,7 @@ returns g c =
     let lead = leader_of c.args.classes.now in
     let I = own c.args.counts ms lead in
     let room : atoms c.args.counts ≤ length c.args.memory.now = omega arith in
-    let (one, sames) = c.write-sames.ensures I (λ a b ha hb. refl) in
-    let is = filled c.args.counts I c.args.memory.now c.write-sames.new.memory c.write-properties.new.memory c.write-relations.new.memory
-    one sames c.write-properties.ensures.better c.write-properties.ensures.right c.write-relations.ensures.better c.write-relations.ensures.right in
-    record { written = (room, is); model = own_bytes c.args.counts ms lead c.args.memory.now c.write-relations.new.memory room is }
+    let (one, sames) = c.write_sames.ensures I (λ a b ha hb. refl) in
+    let is = filled c.args.counts I c.args.memory.now c.write_sames.new.memory c.write_properties.new.memory c.write_relations.new.memory
+    one sames c.write_properties.ensures.better c.write_properties.ensures.right c.write_relations.ensures.better c.write_relations.ensures.right in
+    record { written = (room, is); model = own_bytes c.args.counts ms lead c.args.memory.now c.write_relations.new.memory room is }

@@ -8,8 +8,8 @@ loop-p-init g c = (better_none _ _ _, λ k h. absurd (omega arith))
 
 pub loop-p-preserved : goal.loop-p-preserved
 loop-p-preserved g c = (
-  better_on _ _ _ c.loop-p.memory _ c.loop-p.invariant.0 c.write-symbol.ensures.better,
-  below_more _ _ (λ k h. symbol_kept _ _ (Prop k) _ _ (omega arith) c.write-symbol.ensures.better (c.loop-p.invariant.1 k h)) c.write-symbol.ensures.right,
+  better_on _ _ _ c.loop-p.memory _ c.loop-p.invariant.0 c.write_symbol.ensures.better,
+  below_more _ _ (λ k h. symbol_kept _ _ (Prop k) _ _ (omega arith) c.write_symbol.ensures.better (c.loop-p.invariant.1 k h)) c.write_symbol.ensures.right,
 )
 
 pub returns : goal.returns

@@ -19,7 +19,7 @@ returns g c =
     let without = c.has-model-with-without.result in
     let done = after_clear (t.marks c.args.table.now) (t.marks c.has-model-with-without.new.table) (t.marks c.clear.new.self) is.cleared (two.kept.reach ∙ one.kept.reach) in
     let o : Decides without (Consistent k (cs ++ unit _ ∷ [])) = subst (λ (x : Literal). Decides without (Consistent k (cs ++ unit x ∷ []))) c.opposite.ensures two.right in
-    let so = settled k cs l c.has-model-with-with.result without c.requires.ground-one one.right o in
+    let so = settled k cs l c.has-model-with-with.result without c.requires.ground_one one.right o in
     record {
       left = record {
         kept = record {

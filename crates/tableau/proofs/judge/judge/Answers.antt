@@ -19,9 +19,9 @@ search-requires g c =
     record {
       clear = subst Clear (sym is.cleared) (cleared_clear (t.marks table));
       reach = omega (arith, all.in_reach, ap length is.cleared, cleared_length (t.marks table));
-      room = omega (arith, all.in-room, is.room);
-      trail = all.in-trail;
-      choices = all.in-choices;
+      room = omega (arith, all.in_room, is.room);
+      trail = all.in_trail;
+      choices = all.in_choices;
       fits = subst (λ (n : Counts). ClassTable n (t.marks c.clear.new.self) (leader_of c.of-classes.result)) c.counts-counts.ensures c.of-classes.ensures;
     }
 
@@ -39,8 +39,8 @@ returns-then-search g c =
     let leader = leader_of c.search.new.classes in
     let none = no_cause c.counts-counts.result k c.reach.result (length (t.marks table)) c.capacity.result (t.room table) (length c.args.trail.now) (length c.args.choices.now) (length c.args.model.now) c.in-default.ensures c.counts-counts.ensures c.reach.ensures c.capacity.ensures in
     let all = enough k (length (t.marks table)) (t.room table) (length c.args.trail.now) (length c.args.choices.now) (length c.args.model.now) none in
-    let model = own_model_lem k (b.clauses book) ms leader (b.lawful book) s.classes s.no-clash s.fulfilled in
-    let w = wrote k c.counts-counts.result ms leader c.args.model.now c.write-model.new.memory c.write-model.result c.counts-counts.ensures all.in-model c.write-model.ensures.written c.write-model.ensures.model s.classes in
+    let model = own_model_lem k (b.clauses book) ms leader (b.lawful book) s.classes s.no_clash s.fulfilled in
+    let w = wrote k c.counts-counts.result ms leader c.args.model.now c.write-model.new.memory c.write-model.result c.counts-counts.ensures all.in_model c.write-model.ensures.written c.write-model.ensures.model s.classes in
     record {
       judged = (
         none,
@@ -55,7 +55,7 @@ returns-then-search g c =
         record {
           leader = leader;
           classes = s.classes;
-          no_clash = s.no-clash;
+          no_clash = s.no_clash;
           fulfilled = s.fulfilled;
           beyond = s.beyond;
           model = model;

@@ -35,8 +35,8 @@ returns-in-Some g c =
         state = forced_step b.state (flipped choice) b.below b.lies (moment t c.put.new.table c.put.new.trail c.pop.new.self) q b.reason;
         falls = back_lighter b q (items c.args.trail.now) (items c.args.choices.now) p.popped;
       },
-      put_stands (flipped choice) ms ms' q.marks-are (omega (arith, b.below, reaches b.state)),
-      λ k. b.calm (subst (Clash (g.B.Book.counts c.args.book.now)) (put_back (flipped choice) ms ms' q.marks-are b.lies) k),
+      put_stands (flipped choice) ms ms' q.marks_are (omega (arith, b.below, reaches b.state)),
+      λ k. b.calm (subst (Clash (g.B.Book.counts c.args.book.now)) (put_back (flipped choice) ms ms' q.marks_are b.lies) k),
     )
 
 pub returns-in-None : goal.returns-in-None

@@ -23,7 +23,7 @@ refresh-requires g c =
     let l = c.args.l in
     let ms = t.marks c.args.table.now in
     let ms' = t.marks c.choose.new.table in
-    let e = c.choose.ensures.marks-are in
+    let e = c.choose.ensures.marks_are in
     let lt = reaches c.requires.ready.state in
     record {
       below = c.requires.below;

@@ -16,7 +16,7 @@ refresh-requires g c =
     let l = c.args.l in
     let ms = t.marks c.args.table.now in
     let ms' = t.marks c.put.new.table in
-    let e = (c.put.ensures c.args.choices.now).marks-are in
+    let e = (c.put.ensures c.args.choices.now).marks_are in
     let lt = reaches c.requires.ready.state in
     record {
       below = c.requires.below;

@@ -19,32 +19,32 @@ returns-in-Some c =
       exact = exact bytes;
     }
 
-pub returns-in-None-read-head : goal.returns-in-None-read-head
-returns-in-None-read-head c =
+pub returns-in-None-read_head : goal.returns-in-None-read_head
+returns-in-None-read_head c =
     let bytes = c.args.bytes.now in
     let size : LengthRight bytes = (omega arith, omega arith) in
-    let f = c.in-None-read-head.ensures in
+    let f = c.in-None-read_head.ensures in
     let first : FirstWrong (LayoutRight bytes) (block_count bytes) 0 = (omega arith, λ l. f l.0 l.1 l.2, λ k h. absurd (omega arith)) in
     record {
       read = (inr (inr (0, refl, size, c.in-None.ensures, first)), λ d cls w. first.1 ((file_right bytes d cls w).layouts 0 first.0));
       exact = exact bytes;
     }
 
-pub returns-in-Some-wrong-clauses : goal.returns-in-Some-wrong-clauses
-returns-in-Some-wrong-clauses c =
+pub returns-in-Some-wrong_clauses : goal.returns-in-Some-wrong_clauses
+returns-in-Some-wrong_clauses c =
     let bytes = c.args.bytes.now in
     let size : LengthRight bytes = (omega arith, omega arith) in
-    let first = first_layout bytes _ _ c.in-Some-wrong-clauses.b c.in-Some-read-head.ensures c.in-Some-wrong-clauses.ensures in
+    let first = first_layout bytes _ _ c.in-Some-wrong_clauses.b c.in-Some-read_head.ensures c.in-Some-wrong_clauses.ensures in
     record {
       read = (inr (inr (_, refl, size, c.in-None.ensures, first)), λ d cls w. first.1 ((file_right bytes d cls w).layouts _ first.0));
       exact = exact bytes;
     }
 
-pub returns-in-None-wrong-clauses : goal.returns-in-None-wrong-clauses
-returns-in-None-wrong-clauses c =
+pub returns-in-None-wrong_clauses : goal.returns-in-None-wrong_clauses
+returns-in-None-wrong_clauses c =
     let bytes = c.args.bytes.now in
     let size : LengthRight bytes = (omega arith, omega arith) in
     record {
-      read = (refl, book_file bytes _ _ size c.in-Some-read-head.ensures c.in-None.ensures c.in-None-wrong-clauses.ensures);
+      read = (refl, book_file bytes _ _ size c.in-Some-read_head.ensures c.in-None.ensures c.in-None-wrong_clauses.ensures);
       exact = exact bytes;
     }

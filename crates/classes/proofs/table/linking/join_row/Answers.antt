@@ -5,16 +5,16 @@ use Rattle.classes.proofs.table.linking.join_row.Goals as goal
 pub loop-b-init : goal.loop-b-init
 loop-b-init g c = (c.requires.leading, λ a b ha hb e. e, λ b h. absurd (omega arith))
 
-pub join-pair-requires : goal.join-pair-requires
-join-pair-requires g c = record { names = (c.requires.name, omega arith); leading = c.loop-b.invariant.0 }
+pub join_pair-requires : goal.join_pair-requires
+join_pair-requires g c = record { names = (c.requires.name, omega arith); leading = c.loop-b.invariant.0 }
 
 pub loop-b-preserved : goal.loop-b-preserved
 loop-b-preserved g c = (
-  c.join-pair.ensures.leading,
-  coarser_on _ _ _ c.loop-b.invariant.1 c.join-pair.ensures.coarser,
+  c.join_pair.ensures.leading,
+  coarser_on _ _ _ c.loop-b.invariant.1 c.join_pair.ensures.coarser,
   below_more _ _
-      (joined_on _ _ _ _ c.args.a c.loop-b.b c.requires.name (omega arith) c.join-pair.ensures.coarser c.loop-b.invariant.2)
-      c.join-pair.ensures.joined,
+      (joined_on _ _ _ _ c.args.a c.loop-b.b c.requires.name (omega arith) c.join_pair.ensures.coarser c.loop-b.invariant.2)
+      c.join_pair.ensures.joined,
 )
 
 pub returns : goal.returns

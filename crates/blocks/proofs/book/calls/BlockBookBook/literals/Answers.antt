@@ -4,17 +4,17 @@ use Rattle.blocks.specs.Reading.{number_in, size_in, clauses_in}
 use Rattle.blocks.proofs.Asked.{clauses_len, size_here}
 use Rattle.blocks.proofs.book.calls.BlockBookBook.literals.Goals as goal
 
-pub place-of-requires : goal.place-of-requires
+pub place_of-requires : goal.place_of-requires
 unfolding number_in
-place-of-requires c = omega arith
+place_of-requires c = omega arith
 
-pub returns-then-i-number-in : goal.returns-then-i-number-in
-returns-then-i-number-in c =
+pub returns-then-i-number_in : goal.returns-then-i-number_in
+returns-then-i-number_in c =
     let bytes = c.args.self.now.bytes.now in
-    ap Some (c.size-at.ensures ∙ ap (λ (p : ℕ). size_in (get_or bytes p 0)) c.place-of.ensures) ∙
+    ap Some (c.size_at.ensures ∙ ap (λ (p : ℕ). size_in (get_or bytes p 0)) c.place_of.ensures) ∙
     size_here bytes c.args.i (omega arith)
 
-pub returns-else-i-number-in : goal.returns-else-i-number-in
-returns-else-i-number-in c =
+pub returns-else-i-number_in : goal.returns-else-i-number_in
+returns-else-i-number_in c =
     let bytes = c.args.self.now.bytes.now in
     sym (size_past (clauses_in bytes) c.args.i (omega (arith, clauses_len bytes)))
