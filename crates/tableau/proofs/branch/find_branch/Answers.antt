@@ -15,7 +15,7 @@ search-requires g c =
     let t = g.T.BranchTable in
     let table = c.args.table.now in
     let is = c.clear.ensures in
-    let none = no_table_cause c.counts-counts.result k c.reach.result (length (t.marks table)) c.capacity.result (t.room table) (length c.args.trail.now) (length c.args.choices.now) c.in-default.ensures c.counts-counts.ensures c.reach.ensures c.capacity.ensures in
+    let none = no_table_cause c.counts-counts.result k c.reach.result (length (t.marks table)) c.capacity.result (t.room table) (length c.args.trail.now) (length c.args.choices.now) c.in_default.ensures c.counts-counts.ensures c.reach.ensures c.capacity.ensures in
     let all = enough_table k (length (t.marks table)) (t.room table) (length c.args.trail.now) (length c.args.choices.now) none in
     record {
       clear = subst Clear (sym is.cleared) (cleared_clear (t.marks table));
@@ -38,7 +38,7 @@ returns-then-search g c =
     let s = e.searched in
     let ms = t.marks c.search.new.table in
     let leader = leader_of c.search.new.classes in
-    let none = no_table_cause c.counts-counts.result k c.reach.result (length (t.marks table)) c.capacity.result (t.room table) (length c.args.trail.now) (length c.args.choices.now) c.in-default.ensures c.counts-counts.ensures c.reach.ensures c.capacity.ensures in
+    let none = no_table_cause c.counts-counts.result k c.reach.result (length (t.marks table)) c.capacity.result (t.room table) (length c.args.trail.now) (length c.args.choices.now) c.in_default.ensures c.counts-counts.ensures c.reach.ensures c.capacity.ensures in
     let model = own_model_lem k (b.clauses book) ms leader (b.lawful book) s.classes s.no_clash s.fulfilled in
     record {
       branched = λ memory. (
@@ -66,7 +66,7 @@ returns-else-search g c =
     let table = c.args.table.now in
     let is = c.clear.ensures in
     let e = c.if-search.ensures in
-    let none = no_table_cause c.counts-counts.result k c.reach.result (length (t.marks table)) c.capacity.result (t.room table) (length c.args.trail.now) (length c.args.choices.now) c.in-default.ensures c.counts-counts.ensures c.reach.ensures c.capacity.ensures in
+    let none = no_table_cause c.counts-counts.result k c.reach.result (length (t.marks table)) c.capacity.result (t.room table) (length c.args.trail.now) (length c.args.choices.now) c.in_default.ensures c.counts-counts.ensures c.reach.ensures c.capacity.ensures in
     let reach = e.reach ∙ ap length is.cleared ∙ cleared_length (t.marks table) in
     record {
       branched = λ memory. (

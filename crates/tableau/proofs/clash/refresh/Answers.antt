@@ -18,7 +18,7 @@ returns-else-joins g c =
     let lawful = subst (λ (n : Counts). LawfulGround n a) e found.1 in
     let is = subst (λ (n : Counts). number_of n a ≡ l.atom) e found.2 in
     let none = c.if-joins.ensures refl in
-    let at = subst (λ (n : Counts). Decides c.clashes-at.result (ClashAt n ms leader a l.sign)) e c.clashes-at.ensures in
+    let at = subst (λ (n : Counts). Decides c.clashes_at.result (ClashAt n ms leader a l.sign)) e c.clashes_at.ensures in
     let here = clash_here k ms leader l a lawful is c.requires.stands c.requires.inside c.requires.fits c.requires.calm none in
     record {
       fits = still_fits k ms leader l a lawful is c.requires.stands c.requires.inside c.requires.fits c.requires.calm none;

@@ -14,7 +14,7 @@ search-requires g c =
     let t = g.T.BranchTable in
     let table = c.args.table.now in
     let is = c.clear.ensures in
-    let none = no_cause c.counts-counts.result k c.reach.result (length (t.marks table)) c.capacity.result (t.room table) (length c.args.trail.now) (length c.args.choices.now) (length c.args.model.now) c.in-default.ensures c.counts-counts.ensures c.reach.ensures c.capacity.ensures in
+    let none = no_cause c.counts-counts.result k c.reach.result (length (t.marks table)) c.capacity.result (t.room table) (length c.args.trail.now) (length c.args.choices.now) (length c.args.model.now) c.in_default.ensures c.counts-counts.ensures c.reach.ensures c.capacity.ensures in
     let all = enough k (length (t.marks table)) (t.room table) (length c.args.trail.now) (length c.args.choices.now) (length c.args.model.now) none in
     record {
       clear = subst Clear (sym is.cleared) (cleared_clear (t.marks table));
@@ -37,10 +37,10 @@ returns-then-search g c =
     let s = e.searched in
     let ms = t.marks c.search.new.table in
     let leader = leader_of c.search.new.classes in
-    let none = no_cause c.counts-counts.result k c.reach.result (length (t.marks table)) c.capacity.result (t.room table) (length c.args.trail.now) (length c.args.choices.now) (length c.args.model.now) c.in-default.ensures c.counts-counts.ensures c.reach.ensures c.capacity.ensures in
+    let none = no_cause c.counts-counts.result k c.reach.result (length (t.marks table)) c.capacity.result (t.room table) (length c.args.trail.now) (length c.args.choices.now) (length c.args.model.now) c.in_default.ensures c.counts-counts.ensures c.reach.ensures c.capacity.ensures in
     let all = enough k (length (t.marks table)) (t.room table) (length c.args.trail.now) (length c.args.choices.now) (length c.args.model.now) none in
     let model = own_model_lem k (b.clauses book) ms leader (b.lawful book) s.classes s.no_clash s.fulfilled in
-    let w = wrote k c.counts-counts.result ms leader c.args.model.now c.write-model.new.memory c.write-model.result c.counts-counts.ensures all.in_model c.write-model.ensures.written c.write-model.ensures.model s.classes in
+    let w = wrote k c.counts-counts.result ms leader c.args.model.now c.write_model.new.memory c.write_model.result c.counts-counts.ensures all.in_model c.write_model.ensures.written c.write_model.ensures.model s.classes in
     record {
       judged = (
         none,
@@ -76,7 +76,7 @@ returns-else-search g c =
     let table = c.args.table.now in
     let is = c.clear.ensures in
     let e = c.if-search.ensures in
-    let none = no_cause c.counts-counts.result k c.reach.result (length (t.marks table)) c.capacity.result (t.room table) (length c.args.trail.now) (length c.args.choices.now) (length c.args.model.now) c.in-default.ensures c.counts-counts.ensures c.reach.ensures c.capacity.ensures in
+    let none = no_cause c.counts-counts.result k c.reach.result (length (t.marks table)) c.capacity.result (t.room table) (length c.args.trail.now) (length c.args.choices.now) (length c.args.model.now) c.in_default.ensures c.counts-counts.ensures c.reach.ensures c.capacity.ensures in
     let reach = e.reach ∙ ap length is.cleared ∙ cleared_length (t.marks table) in
     record {
       judged = (

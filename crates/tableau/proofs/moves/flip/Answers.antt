@@ -8,27 +8,27 @@ use Rattle.tableau.proofs.moves.flip.Goals as goal
 pub put-requires : goal.put-requires
 put-requires g c =
     let t = g.T.BranchTable in
-    let e = c.untell-to.ensures in
+    let e = c.untell_to.ensures in
     let p = c.in-Some.ensures in
     let choice = c.in-Some.choice in
     let before = items c.pop.new.self in
-    let n = back_length c.requires.state before choice p.popped (t.marks c.untell-to.new.table) e.marks in
-    let f = same_frame t c.args.table.now c.untell-to.new.table c.args.trail.now c.untell-to.new.trail c.args.choices.now c.pop.new.self e.loan e.room n e.slots e.lent p.slots p.loan in
-    let b = back c.requires.state before choice p.popped {m' = moment t c.untell-to.new.table c.untell-to.new.trail c.pop.new.self} e.marks e.trail refl f c.requires.hopeless in
+    let n = back_length c.requires.state before choice p.popped (t.marks c.untell_to.new.table) e.marks in
+    let f = same_frame t c.args.table.now c.untell_to.new.table c.args.trail.now c.untell_to.new.trail c.args.choices.now c.pop.new.self e.loan e.room n e.slots e.lent p.slots p.loan in
+    let b = back c.requires.state before choice p.popped {m' = moment t c.untell_to.new.table c.untell_to.new.trail c.pop.new.self} e.marks e.trail refl f c.requires.hopeless in
     puttable b.state (flipped choice) b.below b.lies
 
 pub returns-in-Some : goal.returns-in-Some
 returns-in-Some g c =
     let t = g.T.BranchTable in
-    let e = c.untell-to.ensures in
+    let e = c.untell_to.ensures in
     let p = c.in-Some.ensures in
     let choice = c.in-Some.choice in
     let before = items c.pop.new.self in
-    let n = back_length c.requires.state before choice p.popped (t.marks c.untell-to.new.table) e.marks in
-    let f = same_frame t c.args.table.now c.untell-to.new.table c.args.trail.now c.untell-to.new.trail c.args.choices.now c.pop.new.self e.loan e.room n e.slots e.lent p.slots p.loan in
-    let b = back c.requires.state before choice p.popped {m' = moment t c.untell-to.new.table c.untell-to.new.trail c.pop.new.self} e.marks e.trail refl f c.requires.hopeless in
+    let n = back_length c.requires.state before choice p.popped (t.marks c.untell_to.new.table) e.marks in
+    let f = same_frame t c.args.table.now c.untell_to.new.table c.args.trail.now c.untell_to.new.trail c.args.choices.now c.pop.new.self e.loan e.room n e.slots e.lent p.slots p.loan in
+    let b = back c.requires.state before choice p.popped {m' = moment t c.untell_to.new.table c.untell_to.new.trail c.pop.new.self} e.marks e.trail refl f c.requires.hopeless in
     let q = c.put.ensures c.pop.new.self in
-    let ms = t.marks c.untell-to.new.table in
+    let ms = t.marks c.untell_to.new.table in
     let ms' = t.marks c.put.new.table in (
       record {
         frame_is = q.frame_is ∙ f;
@@ -42,11 +42,11 @@ returns-in-Some g c =
 pub returns-in-None : goal.returns-in-None
 returns-in-None g c =
     let t = g.T.BranchTable in
-    let e = c.untell-to-in-None.ensures in
+    let e = c.untell_to-in-None.ensures in
     let popped = c.in-None.ensures.popped in
-    let off = all_off c.requires.state (t.marks c.untell-to-in-None.new.table) e.marks in
+    let off = all_off c.requires.state (t.marks c.untell_to-in-None.new.table) e.marks in
     record {
-      frame_is = same_frame t c.args.table.now c.untell-to-in-None.new.table c.args.trail.now c.untell-to-in-None.new.trail c.args.choices.now c.pop.new.self e.loan e.room off.1 e.slots e.lent c.in-None.ensures.slots c.in-None.ensures.loan;
+      frame_is = same_frame t c.args.table.now c.untell_to-in-None.new.table c.args.trail.now c.untell_to-in-None.new.trail c.args.choices.now c.pop.new.self e.loan e.room off.1 e.slots e.lent c.in-None.ensures.slots c.in-None.ensures.loan;
       none = failed c.requires.state popped.0 c.requires.hopeless;
       clear = off.0;
     }

@@ -13,8 +13,8 @@ loop-at-init g c = (steady_here c.requires.state, c.requires)
 pub follow-requires : goal.follow-requires
 follow-requires g c = c.loop-at.invariant.1
 
-pub overflow-add-at : goal.overflow-add-at
-overflow-add-at g c = omega (arith, c.in-Some.ensures.0, trail_le c.loop-at.invariant.1.state, c.loop-at.invariant.1.state.roomy.short)
+pub overflow_add-at : goal.overflow_add-at
+overflow_add-at g c = omega (arith, c.in-Some.ensures.0, trail_le c.loop-at.invariant.1.state, c.loop-at.invariant.1.state.roomy.short)
 
 pub loop-at-smaller : goal.loop-at-smaller
 loop-at-smaller g c = omega (arith, c.in-Some.ensures.0, trail_le c.loop-at.invariant.1.state)
@@ -59,6 +59,6 @@ returns g c =
     let m' = moment t c.loop-at.table c.loop-at.trail c.args.choices.now in
     let P : Pass → Type 0 = λ p. Passed (b.counts book) (b.clauses book) m m' p in
     record {
-      passed = subst P (sym c.pass-of.ensures) (gone_pass (b.counts book) (b.clauses book) m m' c.loop-at.moved c.loop-at.invariant.0 c.loop-at.invariant.1.calm);
+      passed = subst P (sym c.pass_of.ensures) (gone_pass (b.counts book) (b.clauses book) m m' c.loop-at.moved c.loop-at.invariant.0 c.loop-at.invariant.1.calm);
       fits = c.loop-at.invariant.1.fits;
     }

@@ -11,8 +11,8 @@ use Rattle.tableau.proofs.Looks.{at_step, at_end, has_here, more_denied, more_op
 use Rattle.tableau.proofs.scan.evaluate.Goals as goal
 use Rattle.tableau.proofs.scan.evaluate.Goals.{in-Denied, in-Untold}
 
-pub signed-atom-atom-requires : goal.signed-atom-atom-requires
-signed-atom-atom-requires g c =
+pub signed_atom-atom-requires : goal.signed_atom-atom-requires
+signed_atom-atom-requires g c =
     let b = g.B.Book in
     let book = c.args.book.now in
     let e = sym c.counts-counts.ensures in
@@ -26,14 +26,14 @@ returns-in-Stands g c =
     let b = g.B.Book in
     let book = c.args.book.now in
     let σ = names_of c.args.names in
-    let x = c.signed-atom-atom.result in
-    let is : x ≡ signed_atom_of (b.counts book) σ c.in-Some.l = c.signed-atom-atom.ensures.is ∙ ap (λ k. signed_atom_of k σ c.in-Some.l) c.counts-counts.ensures in
+    let x = c.signed_atom-atom.result in
+    let is : x ≡ signed_atom_of (b.counts book) σ c.in-Some.l = c.signed_atom-atom.ensures.is ∙ ap (λ k. signed_atom_of k σ c.in-Some.l) c.counts-counts.ensures in
     let s = at_step (b.counts book) σ (b.clauses book) c.args.i c.loop-l.j c.in-Some.l x c.in-Some.ensures is in
     let ins = instance (b.counts book) σ (get_or (b.clauses book) c.args.i []) in
     (x, has_here (g.T.BranchTable.marks c.args.table.now) ins c.loop-l.j s.0 x s.1, c.in-Stands.ensures)
 
-pub overflow-add-j : goal.overflow-add-j
-overflow-add-j g c =
+pub overflow_add-j : goal.overflow_add-j
+overflow_add-j g c =
     let b = g.B.Book in
     let book = c.args.book.now in
     let h = literal_of_list (b.clauses book) c.args.i c.loop-l.j c.in-Some.l c.in-Some.ensures in
@@ -53,8 +53,8 @@ loop-l-preserved g c =
     let ms = g.T.BranchTable.marks c.args.table.now in
     let σ = names_of c.args.names in
     let j = c.loop-l.j in
-    let x = c.signed-atom-atom.result in
-    let is : x ≡ signed_atom_of (b.counts book) σ c.in-Some.l = c.signed-atom-atom.ensures.is ∙ ap (λ k. signed_atom_of k σ c.in-Some.l) c.counts-counts.ensures in
+    let x = c.signed_atom-atom.result in
+    let is : x ≡ signed_atom_of (b.counts book) σ c.in-Some.l = c.signed_atom-atom.ensures.is ∙ ap (λ k. signed_atom_of k σ c.in-Some.l) c.counts-counts.ensures in
     let s = at_step (b.counts book) σ (b.clauses book) c.args.i j c.in-Some.l x c.in-Some.ensures is in
     let ins = instance (b.counts book) σ (get_or (b.clauses book) c.args.i []) in
     let P : Status → Type 0 = λ v. Evaluated ms ins (take (j + 1) ins) v in
@@ -71,4 +71,4 @@ returns g c =
     let σ = names_of c.args.names in
     let ins = instance (b.counts book) σ (get_or (b.clauses book) c.args.i []) in
     let P : List SignedAtom → Type 0 = λ f. Evaluated ms ins f c.loop-l.status in
-    subst P (at_end (b.counts book) σ (b.clauses book) c.args.i c.loop-l.j c.in-default.ensures) c.loop-l.invariant
+    subst P (at_end (b.counts book) σ (b.clauses book) c.args.i c.loop-l.j c.in_default.ensures) c.loop-l.invariant

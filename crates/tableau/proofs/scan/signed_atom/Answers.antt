@@ -6,8 +6,8 @@ use Rattle.semantics.proofs.Instances.{four_below, instance_lawful}
 use Rattle.tableau.specs.Instances.{names_of}
 use Rattle.tableau.proofs.scan.signed_atom.Goals as goal
 
-pub overflow-cast-result : goal.overflow-cast-result
-overflow-cast-result c = omega (arith, few c.args.counts, c.in-Some.ensures.2)
+pub overflow_cast-result : goal.overflow_cast-result
+overflow_cast-result c = omega (arith, few c.args.counts, c.in-Some.ensures.2)
 
 pub returns-in-None : goal.returns-in-None
 returns-in-None c =

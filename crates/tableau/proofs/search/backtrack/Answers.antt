@@ -36,6 +36,6 @@ returns g c =
       turned =
           turned_on (b.counts book) (b.clauses book) (moment t c.args.table.now c.args.trail.now c.args.choices.now)
           (moment t c.loop-l.table c.loop-l.trail c.loop-l.choices) (moment t c.flip.new.table c.flip.new.trail c.flip.new.choices) Failed
-          c.loop-l.invariant.0 c.in-default.ensures;
+          c.loop-l.invariant.0 c.in_default.ensures;
       fits = tt;
     }

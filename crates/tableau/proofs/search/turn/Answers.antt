@@ -7,11 +7,11 @@ returns-in-Rest g c =
     let t = g.T.BranchTable in
     let b = g.B.Book in
     let book = c.args.book.now in
-    let e = c.decide-on.ensures in
+    let e = c.decide_on.ensures in
     record {
       turned =
           turned_on (b.counts book) (b.clauses book) (moment t c.args.table.now c.args.trail.now c.args.choices.now)
-          (moment t c.propagate.new.table c.propagate.new.trail c.args.choices.now) (moment t c.decide-on.new.table c.decide-on.new.trail c.decide-on.new.choices) c.decide-on.result
+          (moment t c.propagate.new.table c.propagate.new.trail c.args.choices.now) (moment t c.decide_on.new.table c.decide_on.new.trail c.decide_on.new.choices) c.decide_on.result
           c.in-Rest.ensures.passed.0 e.turned;
       fits = e.fits;
     }

@@ -5,4 +5,4 @@ pub returns : goal.returns
 returns g c =
     let b = g.B.Book in
     let book = c.args.book.now in
-    surveyed_whole (b.counts book) (b.clauses book) (g.T.BranchTable.marks c.args.table.now) (b.lawful book) c.survey-from.result c.survey-from.ensures
+    surveyed_whole (b.counts book) (b.clauses book) (g.T.BranchTable.marks c.args.table.now) (b.lawful book) c.survey_from.result c.survey_from.ensures

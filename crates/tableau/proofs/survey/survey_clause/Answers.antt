@@ -13,8 +13,8 @@ size-k-end-requires g c =
     let book = c.args.book.now in
     narrow_at (b.counts book) (get_or (b.clauses book) c.args.i []) c.ranges-ranges.result c.ranges-ranges.ensures
 
-pub nth-names-requires : goal.nth-names-requires
-nth-names-requires g c =
+pub nth_names-requires : goal.nth_names-requires
+nth_names-requires g c =
     let b = g.B.Book in
     let book = c.args.book.now in
     record {
@@ -32,7 +32,7 @@ evaluate-requires g c =
     let n = size_at_index (b.counts book) cl r e c.size-k-end.result c.size-k-end.ensures in
     record {
       inside = c.requires.inside;
-      below = below_at (b.counts book) cl r e c.loop-k.k c.nth-names.result (omega (arith, c.loop-k-test.true, n)) c.nth-names.ensures;
+      below = below_at (b.counts book) cl r e c.loop-k.k c.nth_names.result (omega (arith, c.loop-k-test.true, n)) c.nth_names.ensures;
       reaches = c.requires.reaches;
     }
 
@@ -44,8 +44,8 @@ returns-in-Broken g c =
     let r = c.ranges-ranges.result in
     let e = c.ranges-ranges.ensures in
     let n = size_at_index (b.counts book) cl r e c.size-k-end.result c.size-k-end.ensures in
-    let f = c.nth-names.result in
-    let below = below_at (b.counts book) cl r e c.loop-k.k f (omega (arith, c.loop-k-test.true, n)) c.nth-names.ensures in
+    let f = c.nth_names.result in
+    let below = below_at (b.counts book) cl r e c.loop-k.k f (omega (arith, c.loop-k-test.true, n)) c.nth_names.ensures in
     no_model (g.T.BranchTable.marks c.args.table.now) (instance (b.counts book) (names_of f) cl)
     (satisfied (b.counts book) (b.clauses book) (b.lawful book) c.args.i c.requires.inside (names_of f) (assigns_below (b.counts book) f below))
     c.in-Broken.ensures
@@ -58,8 +58,8 @@ returns-in-Forced g c =
     let r = c.ranges-ranges.result in
     let e = c.ranges-ranges.ensures in
     let n = size_at_index (b.counts book) cl r e c.size-k-end.result c.size-k-end.ensures in
-    let f = c.nth-names.result in
-    let below = below_at (b.counts book) cl r e c.loop-k.k f (omega (arith, c.loop-k-test.true, n)) c.nth-names.ensures in
+    let f = c.nth_names.result in
+    let below = below_at (b.counts book) cl r e c.loop-k.k f (omega (arith, c.loop-k-test.true, n)) c.nth_names.ensures in
     let s = c.in-Forced.ensures in
     (atom_below (b.counts book) (b.clauses book) (b.lawful book) c.args.i c.requires.inside (names_of f) (assigns_below (b.counts book) f below) c.in-Forced.l s.1, s.0)
 
@@ -71,8 +71,8 @@ returns-in-Loose g c =
     let r = c.ranges-ranges.result in
     let e = c.ranges-ranges.ensures in
     let n = size_at_index (b.counts book) cl r e c.size-k-end.result c.size-k-end.ensures in
-    let f = c.nth-names.result in
-    let below = below_at (b.counts book) cl r e c.loop-k.k f (omega (arith, c.loop-k-test.true, n)) c.nth-names.ensures in
+    let f = c.nth_names.result in
+    let below = below_at (b.counts book) cl r e c.loop-k.k f (omega (arith, c.loop-k-test.true, n)) c.nth_names.ensures in
     let s = c.in-Loose.ensures in
     (atom_below (b.counts book) (b.clauses book) (b.lawful book) c.args.i c.requires.inside (names_of f) (assigns_below (b.counts book) f below) c.in-Loose.l s.1, s.0)
 
@@ -82,7 +82,7 @@ loop-k-preserved g c =
     let book = c.args.book.now in
     let cl = get_or (b.clauses book) c.args.i [] in
     let P : FourNames → Type 0 = λ n. SomeOf (StandsIn (g.T.BranchTable.marks c.args.table.now)) (instance (b.counts book) (names_of n) cl) in
-    below_more _ _ c.loop-k.invariant (λ _. subst P (names_at (b.counts book) cl c.ranges-ranges.result c.ranges-ranges.ensures c.loop-k.k c.nth-names.result c.nth-names.ensures) c.in-Fulfilled.ensures)
+    below_more _ _ c.loop-k.invariant (λ _. subst P (names_at (b.counts book) cl c.ranges-ranges.result c.ranges-ranges.ensures c.loop-k.k c.nth_names.result c.nth_names.ensures) c.in-Fulfilled.ensures)
 
 pub returns : goal.returns
 returns g c =

@@ -6,4 +6,4 @@ pub returns-in-Fulfilled : goal.returns-in-Fulfilled
 returns-in-Fulfilled g c =
     let b = g.B.Book in
     let book = c.args.book.now in
-    surveyed_less (b.counts book) (b.clauses book) (g.T.BranchTable.marks c.args.table.now) (c.args.hints.now.surveyed + 1) c.survey-from.result c.survey-from.ensures
+    surveyed_less (b.counts book) (b.clauses book) (g.T.BranchTable.marks c.args.table.now) (c.args.hints.now.surveyed + 1) c.survey_from.result c.survey_from.ensures

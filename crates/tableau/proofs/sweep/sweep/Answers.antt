@@ -9,8 +9,8 @@ use Rattle.tableau.proofs.sweep.sweep.Goals.{in-Moved, in-Rest}
 pub loop-i-init : goal.loop-i-init
 loop-i-init g c = (steady_here c.requires.state, c.requires)
 
-pub sweep-single-requires : goal.sweep-single-requires
-sweep-single-requires g c = record { ready = c.loop-i.invariant.1; inside = omega (arith, c.loop-i-test.true, c.len-i-end.ensures) }
+pub sweep_single-requires : goal.sweep_single-requires
+sweep_single-requires g c = record { ready = c.loop-i.invariant.1; inside = omega (arith, c.loop-i-test.true, c.len-i-end.ensures) }
 
 pub returns-in-Hopeless : goal.returns-in-Hopeless
 returns-in-Hopeless g c =
@@ -32,9 +32,9 @@ loop-i-preserved g c =
     let book = c.args.book.now in
     let m = moment t c.args.table.now c.args.trail.now c.args.choices.now in
     let m' = moment t c.loop-i.table c.loop-i.trail c.args.choices.now in
-    let m'' = moment t c.sweep-single.new.table c.sweep-single.new.trail c.args.choices.now in
+    let m'' = moment t c.sweep_single.new.table c.sweep_single.new.trail c.args.choices.now in
     let P : Bool → Type 0 = λ v. Gone (b.counts book) (b.clauses book) m m'' v in
-    elim c.match-sweep-single.branch [
+    elim c.match-sweep_single.branch [
       | in-Moved w ↦
           let e = w.in-Moved.ensures in
           (subst P (sym w.moved-is) (lighter_on (gone_steady (b.counts book) (b.clauses book) m m' c.loop-i.moved c.loop-i.invariant.0) e.passed.0), record { state = e.passed.0.state; calm = e.passed.1; fits = e.fits })
@@ -52,6 +52,6 @@ returns g c =
     let m' = moment t c.loop-i.table c.loop-i.trail c.args.choices.now in
     let P : Pass → Type 0 = λ p. Passed (b.counts book) (b.clauses book) m m' p in
     record {
-      passed = subst P (sym c.pass-of.ensures) (gone_pass (b.counts book) (b.clauses book) m m' c.loop-i.moved c.loop-i.invariant.0 c.loop-i.invariant.1.calm);
+      passed = subst P (sym c.pass_of.ensures) (gone_pass (b.counts book) (b.clauses book) m m' c.loop-i.moved c.loop-i.invariant.0 c.loop-i.invariant.1.calm);
       fits = c.loop-i.invariant.1.fits;
     }

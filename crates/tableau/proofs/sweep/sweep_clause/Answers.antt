@@ -16,8 +16,8 @@ size-k-end-requires g c =
 pub loop-k-init : goal.loop-k-init
 loop-k-init g c = (steady_here c.requires.ready.state, c.requires.ready)
 
-pub nth-names-requires : goal.nth-names-requires
-nth-names-requires g c =
+pub nth_names-requires : goal.nth_names-requires
+nth_names-requires g c =
     let b = g.B.Book in
     let book = c.args.book.now in
     record {
@@ -36,7 +36,7 @@ press-requires g c =
     record {
       ready = c.loop-k.invariant.1;
       inside = c.requires.inside;
-      below = below_at (b.counts book) cl r e c.loop-k.k c.nth-names.result (omega (arith, c.loop-k-test.true, n)) c.nth-names.ensures;
+      below = below_at (b.counts book) cl r e c.loop-k.k c.nth_names.result (omega (arith, c.loop-k-test.true, n)) c.nth_names.ensures;
     }
 
 pub returns-in-Hopeless : goal.returns-in-Hopeless
@@ -79,6 +79,6 @@ returns g c =
     let m' = moment t c.loop-k.table c.loop-k.trail c.args.choices.now in
     let P : Pass → Type 0 = λ p. Passed (b.counts book) (b.clauses book) m m' p in
     record {
-      passed = subst P (sym c.pass-of.ensures) (gone_pass (b.counts book) (b.clauses book) m m' c.loop-k.moved c.loop-k.invariant.0 c.loop-k.invariant.1.calm);
+      passed = subst P (sym c.pass_of.ensures) (gone_pass (b.counts book) (b.clauses book) m m' c.loop-k.moved c.loop-k.invariant.0 c.loop-k.invariant.1.calm);
       fits = c.loop-k.invariant.1.fits;
     }

@@ -10,13 +10,13 @@ use Rattle.tableau.proofs.touch.touch_clause.Goals.{in-Moved, in-Rest}
 pub loop-l-init : goal.loop-l-init
 loop-l-init g c = (steady_here c.requires.state, c.requires)
 
-pub touch-literal-requires : goal.touch-literal-requires
-touch-literal-requires g c =
+pub touch_literal-requires : goal.touch_literal-requires
+touch_literal-requires g c =
     let h = literal_of_list (g.B.Book.clauses c.args.book.now) c.args.i c.loop-l.j c.in-Some.l c.in-Some.ensures in
     record { ready = c.loop-l.invariant.1; inside = h.0 }
 
-pub overflow-add-j : goal.overflow-add-j
-overflow-add-j g c =
+pub overflow_add-j : goal.overflow_add-j
+overflow_add-j g c =
     let b = g.B.Book in
     let book = c.args.book.now in
     let h = literal_of_list (b.clauses book) c.args.i c.loop-l.j c.in-Some.l c.in-Some.ensures in
@@ -47,9 +47,9 @@ loop-l-preserved g c =
     let book = c.args.book.now in
     let m = moment t c.args.table.now c.args.trail.now c.args.choices.now in
     let m' = moment t c.loop-l.table c.loop-l.trail c.args.choices.now in
-    let m'' = moment t c.touch-literal.new.table c.touch-literal.new.trail c.args.choices.now in
+    let m'' = moment t c.touch_literal.new.table c.touch_literal.new.trail c.args.choices.now in
     let P : Bool → Type 0 = λ v. Gone (b.counts book) (b.clauses book) m m'' v in
-    elim c.match-touch-literal.branch [
+    elim c.match-touch_literal.branch [
       | in-Moved w ↦
           let e = w.in-Moved.ensures in
           (subst P (sym w.moved-is) (lighter_on (gone_steady (b.counts book) (b.clauses book) m m' c.loop-l.moved c.loop-l.invariant.0) e.passed.0), record { state = e.passed.0.state; calm = e.passed.1; fits = e.fits })
@@ -67,6 +67,6 @@ returns g c =
     let m' = moment t c.loop-l.table c.loop-l.trail c.args.choices.now in
     let P : Pass → Type 0 = λ p. Passed (b.counts book) (b.clauses book) m m' p in
     record {
-      passed = subst P (sym c.pass-of.ensures) (gone_pass (b.counts book) (b.clauses book) m m' c.loop-l.moved c.loop-l.invariant.0 c.loop-l.invariant.1.calm);
+      passed = subst P (sym c.pass_of.ensures) (gone_pass (b.counts book) (b.clauses book) m m' c.loop-l.moved c.loop-l.invariant.0 c.loop-l.invariant.1.calm);
       fits = c.loop-l.invariant.1.fits;
     }

@@ -10,27 +10,27 @@ use Rattle.tableau.proofs.touch.touch_spans.Goals as goal
 use Rattle.tableau.proofs.touch.touch_spans.Goals.{in-Moved, in-Rest}
 
 pub size-k-end-requires : goal.size-k-end-requires
-size-k-end-requires g c = c.ranges-in-ranges.ensures.narrow
+size-k-end-requires g c = c.ranges_in-ranges.ensures.narrow
 
 pub loop-k-init : goal.loop-k-init
 loop-k-init g c = (steady_here c.requires.ready.state, c.requires.ready)
 
-pub nth-in-requires : goal.nth-in-requires
-nth-in-requires g c =
+pub nth_in-requires : goal.nth_in-requires
+nth_in-requires g c =
     let P : Counts → Type 0 = λ k. InSpans k c.args.spans in
     record {
       spans = subst P (sym c.counts-counts.ensures) c.requires.spans;
-      runs = c.ranges-in-ranges.ensures;
+      runs = c.ranges_in-ranges.ensures;
       inside = omega (arith, c.loop-k-test.true, c.size-k-end.ensures);
     }
 
 pub press-requires : goal.press-requires
 press-requires g c =
-    let P : Counts → Type 0 = λ k. Below k c.nth-in.result in
+    let P : Counts → Type 0 = λ k. Below k c.nth_in.result in
     record {
       ready = c.loop-k.invariant.1;
       inside = c.requires.inside;
-      below = subst P c.counts-counts.ensures c.nth-in.ensures;
+      below = subst P c.counts-counts.ensures c.nth_in.ensures;
     }
 
 pub returns-in-Hopeless : goal.returns-in-Hopeless
@@ -73,6 +73,6 @@ returns g c =
     let m' = moment t c.loop-k.table c.loop-k.trail c.args.choices.now in
     let P : Pass → Type 0 = λ p. Passed (b.counts book) (b.clauses book) m m' p in
     record {
-      passed = subst P (sym c.pass-of.ensures) (gone_pass (b.counts book) (b.clauses book) m m' c.loop-k.moved c.loop-k.invariant.0 c.loop-k.invariant.1.calm);
+      passed = subst P (sym c.pass_of.ensures) (gone_pass (b.counts book) (b.clauses book) m m' c.loop-k.moved c.loop-k.invariant.0 c.loop-k.invariant.1.calm);
       fits = c.loop-k.invariant.1.fits;
     }

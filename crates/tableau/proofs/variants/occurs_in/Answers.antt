@@ -2,8 +2,8 @@ use Rattle.std.proofs.Common.{arith}
 use Rattle.books.proofs.Readings.{literal_of_list, clause_lawful}
 use Rattle.tableau.proofs.variants.occurs_in.Goals as goal
 
-pub overflow-add-j : goal.overflow-add-j
-overflow-add-j g c =
+pub overflow_add-j : goal.overflow_add-j
+overflow_add-j g c =
     let b = g.B.Book in
     let book = c.args.book.now in
     let h = literal_of_list (b.clauses book) c.args.i c.loop-l.j c.in-Some.l c.in-Some.ensures in

@@ -10,11 +10,11 @@ use Rattle.tableau.proofs.variants.spread_from.Goals.{in-Moved, in-Rest}
 pub loop-at-init : goal.loop-at-init
 loop-at-init g c = (steady_here c.requires.state, c.requires)
 
-pub tell-linked-requires : goal.tell-linked-requires
-tell-linked-requires g c = c.loop-at.invariant.1
+pub tell_linked-requires : goal.tell_linked-requires
+tell_linked-requires g c = c.loop-at.invariant.1
 
-pub overflow-add-at : goal.overflow-add-at
-overflow-add-at g c = omega (arith, c.in-Some.ensures.0, trail_le c.loop-at.invariant.1.state, c.loop-at.invariant.1.state.roomy.short)
+pub overflow_add-at : goal.overflow_add-at
+overflow_add-at g c = omega (arith, c.in-Some.ensures.0, trail_le c.loop-at.invariant.1.state, c.loop-at.invariant.1.state.roomy.short)
 
 pub loop-at-smaller : goal.loop-at-smaller
 loop-at-smaller g c = omega (arith, c.in-Some.ensures.0, trail_le c.loop-at.invariant.1.state)
@@ -39,9 +39,9 @@ loop-at-preserved g c =
     let book = c.args.book.now in
     let m = moment t c.args.table.now c.args.trail.now c.args.choices.now in
     let m' = moment t c.loop-at.table c.loop-at.trail c.args.choices.now in
-    let m'' = moment t c.tell-linked.new.table c.tell-linked.new.trail c.args.choices.now in
+    let m'' = moment t c.tell_linked.new.table c.tell_linked.new.trail c.args.choices.now in
     let P : Bool → Type 0 = λ v. Gone (b.counts book) (b.clauses book) m m'' v in
-    elim c.match-tell-linked.branch [
+    elim c.match-tell_linked.branch [
       | in-Moved w ↦
           let e = w.in-Moved.ensures in
           (subst P (sym w.moved-is) (lighter_on (gone_steady (b.counts book) (b.clauses book) m m' c.loop-at.moved c.loop-at.invariant.0) e.passed.0), record { state = e.passed.0.state; calm = e.passed.1; fits = e.fits })
@@ -59,6 +59,6 @@ returns g c =
     let m' = moment t c.loop-at.table c.loop-at.trail c.args.choices.now in
     let P : Pass → Type 0 = λ p. Passed (b.counts book) (b.clauses book) m m' p in
     record {
-      passed = subst P (sym c.pass-of.ensures) (gone_pass (b.counts book) (b.clauses book) m m' c.loop-at.moved c.loop-at.invariant.0 c.loop-at.invariant.1.calm);
+      passed = subst P (sym c.pass_of.ensures) (gone_pass (b.counts book) (b.clauses book) m m' c.loop-at.moved c.loop-at.invariant.0 c.loop-at.invariant.1.calm);
       fits = c.loop-at.invariant.1.fits;
     }

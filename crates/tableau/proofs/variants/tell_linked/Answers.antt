@@ -10,14 +10,14 @@ use Rattle.tableau.proofs.variants.tell_linked.Goals.{in-Moved, in-Rest}
 pub loop-k-init : goal.loop-k-init
 loop-k-init g c = (steady_here c.requires.state, c.requires)
 
-pub overflow-cast-k : goal.overflow-cast-k
-overflow-cast-k g c =
+pub overflow_cast-k : goal.overflow_cast-k
+overflow_cast-k g c =
     let n = c.names-names.result in
     let some : 1 ≤ n = omega (arith, c.names-names.ensures, c.counts-counts.result.some) in
     omega (arith, div_below c.loop-k.k n n some c.loop-k-test.true, c.names-names.ensures, c.counts-counts.result.few)
 
-pub tell-renamed-requires : goal.tell-renamed-requires
-tell-renamed-requires g c = c.loop-k.invariant.1
+pub tell_renamed-requires : goal.tell_renamed-requires
+tell_renamed-requires g c = c.loop-k.invariant.1
 
 pub returns-in-Hopeless : goal.returns-in-Hopeless
 returns-in-Hopeless g c =
@@ -39,9 +39,9 @@ loop-k-preserved g c =
     let book = c.args.book.now in
     let m = moment t c.args.table.now c.args.trail.now c.args.choices.now in
     let m' = moment t c.loop-k.table c.loop-k.trail c.args.choices.now in
-    let m'' = moment t c.tell-renamed.new.table c.tell-renamed.new.trail c.args.choices.now in
+    let m'' = moment t c.tell_renamed.new.table c.tell_renamed.new.trail c.args.choices.now in
     let P : Bool → Type 0 = λ v. Gone (b.counts book) (b.clauses book) m m'' v in
-    elim c.match-tell-renamed.branch [
+    elim c.match-tell_renamed.branch [
       | in-Moved w ↦
           let e = w.in-Moved.ensures in
           (subst P (sym w.moved-is) (lighter_on (gone_steady (b.counts book) (b.clauses book) m m' c.loop-k.moved c.loop-k.invariant.0) e.passed.0), record { state = e.passed.0.state; calm = e.passed.1; fits = e.fits })
@@ -59,6 +59,6 @@ returns g c =
     let m' = moment t c.loop-k.table c.loop-k.trail c.args.choices.now in
     let P : Pass → Type 0 = λ p. Passed (b.counts book) (b.clauses book) m m' p in
     record {
-      passed = subst P (sym c.pass-of.ensures) (gone_pass (b.counts book) (b.clauses book) m m' c.loop-k.moved c.loop-k.invariant.0 c.loop-k.invariant.1.calm);
+      passed = subst P (sym c.pass_of.ensures) (gone_pass (b.counts book) (b.clauses book) m m' c.loop-k.moved c.loop-k.invariant.0 c.loop-k.invariant.1.calm);
       fits = c.loop-k.invariant.1.fits;
     }

@@ -9,11 +9,11 @@ use Rattle.tables_tests.proofs.lent.try_bytes.Goals as goal
 pub returns : goal.returns
 returns c =
     let n = c.new-table.ensures in
-    let u = c.tell-and-untell.ensures in
+    let u = c.tell_and_untell.ensures in
     let t = c.new-trail.ensures in
     let bs = c.args.bytes.now in
     let atoms = c.args.atoms.now in
-    let same : c.tell-and-untell.new.table.bytes.ghost_name ≡ c.new-table.result.bytes.ghost_name = ap (λ (l : Loan). l.name) u.loan in
+    let same : c.tell_and_untell.new.table.bytes.ghost_name ≡ c.new-table.result.bytes.ghost_name = ap (λ (l : Loan). l.name) u.loan in
     let free : slots_of c.new-trail.result - length (items c.new-trail.result) ≡ length c.args.slots.now = omega (arith, t.slots, ap length t.items) in
     record {
       count = u.count

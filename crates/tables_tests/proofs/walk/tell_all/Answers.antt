@@ -6,13 +6,13 @@ use Rattle.tables_tests.specs.Told.{count_told, told}
 use Rattle.tables_tests.proofs.Counted.{stop_full, stop_refused, step_told, told_push, pushed_on}
 use Rattle.tables_tests.proofs.walk.tell_all.Goals as goal
 
-pub returns-then-is-full : goal.returns-then-is-full
-returns-then-is-full g c =
+pub returns-then-is_full : goal.returns-then-is_full
+returns-then-is_full g c =
     let t = g.T.BranchTable in
     let l = c.loop-atom in
     let i = l.invariant in
     let atoms = c.args.atoms.now in
-    let stop = stop_full (t.room c.args.table.now) c.args.sign (slots_of l.trail) (items l.trail) (t.marks l.table) atoms l.atom-index (c.is-full.ensures.0 c.if-is-full.true) in
+    let stop = stop_full (t.room c.args.table.now) c.args.sign (slots_of l.trail) (items l.trail) (t.marks l.table) atoms l.atom-index (c.is_full.ensures.0 c.if-is_full.true) in
     record {
       count = omega (arith, i.0, i.1, stop);
       marks = i.2 ∙ ap (λ k. told c.args.sign (t.marks c.args.table.now) (take k atoms)) (sym i.0);
@@ -31,7 +31,7 @@ returns-in-Err g c =
     let atoms = c.args.atoms.now in
     let e = c.in-Err.ensures in
     let why = ap (λ r. tell_refusal (t.marks l.table) r (get_or atoms l.atom-index 0)) (sym i.4) ∙ e.told.0 in
-    let stop = stop_refused (t.room c.args.table.now) c.args.sign (slots_of l.trail - length (items l.trail)) (t.marks l.table) atoms l.atom-index c.in-Err.-refusal c.loop-atom-test.true why in
+    let stop = stop_refused (t.room c.args.table.now) c.args.sign (slots_of l.trail - length (items l.trail)) (t.marks l.table) atoms l.atom-index c.in-Err._refusal c.loop-atom-test.true why in
     record {
       count = omega (arith, i.0, i.1, stop);
       marks = e.told.1 ∙ i.2 ∙ ap (λ k. told c.args.sign (t.marks c.args.table.now) (take k atoms)) (sym i.0);
@@ -54,7 +54,7 @@ loop-atom-preserved g c =
     let s = c.args.sign in
     let ms = t.marks c.args.table.now in
     let e = c.in-Ok.ensures in
-    let p = pushed_on (items l.trail) (items c.push.new.self) (slots_of l.trail) a c.push.result c.push.ensures.pushed (λ f. let y = c.is-full.ensures.1 f in let n' = c.if-is-full.false in let z : ◌≡◌ {A = ℕ} 0 1 = cc in omega arith) in
+    let p = pushed_on (items l.trail) (items c.push.new.self) (slots_of l.trail) a c.push.result c.push.ensures.pushed (λ f. let y = c.is_full.ensures.1 f in let n' = c.if-is_full.false in let z : ◌≡◌ {A = ℕ} 0 1 = cc in omega arith) in
     let why = ap (λ r. tell_refusal (t.marks l.table) r a) (sym i.4) ∙ e.told.0 in
     let free : slots_of c.push.new.self - length (items c.push.new.self) ≡ slots_of l.trail - length (items l.trail) - 1 = omega (arith, c.push.ensures.slots, ap length p.1 ∙ length_push (items l.trail) a) in
     let step = step_told (t.room c.args.table.now) s (slots_of l.trail - length (items l.trail)) (slots_of c.push.new.self - length (items c.push.new.self))

@@ -7,18 +7,18 @@ use Rattle.books.proofs.Readings.{literal_of_list, literal_is, clause_lawful, wa
 use Rattle.instances.proofs.Ranging.{uses_in, uses_none}
 use Rattle.instances.proofs.ranges.calls.is_used.Goals as goal
 
-pub returns-then-is-in-atom : goal.returns-then-is-in-atom
-returns-then-is-in-atom g c =
+pub returns-then-is_in_atom : goal.returns-then-is_in_atom
+returns-then-is_in_atom g c =
     let v = c.args.v in
     let cs = g.B.Book.clauses c.args.book.now in
     let l = c.in-Some.l in
     let cl = get_or cs c.args.i [] in
     let h = literal_of_list cs c.args.i c.loop-l.j l c.in-Some.ensures in
     let has : Has cl l = subst (Has cl) (sym h.2) (has_get_or cl c.loop-l.j l h.1) in
-    sym (all-has (λ (m : Literal). atom_use v m.atom ≡ true → uses v cl ≡ true) cl l (uses_in v cl) has (sym c.if-is-in-atom.ensures))
+    sym (all-has (λ (m : Literal). atom_use v m.atom ≡ true → uses v cl ≡ true) cl l (uses_in v cl) has (sym c.if-is_in_atom.ensures))
 
-pub overflow-add-j : goal.overflow-add-j
-overflow-add-j g c =
+pub overflow_add-j : goal.overflow_add-j
+overflow_add-j g c =
     let b = g.B.Book in
     let book = c.args.book.now in
     let h = literal_of_list (b.clauses book) c.args.i c.loop-l.j c.in-Some.l c.in-Some.ensures in
@@ -37,7 +37,7 @@ loop-l-preserved g c =
     let cl = get_or cs c.args.i [] in
     let h = literal_of_list cs c.args.i c.loop-l.j l c.in-Some.ensures in
     let P : Literal → Type 0 = λ m. atom_use v m.atom ≡ false in
-    All-more P cl c.loop-l.j l h.1 c.loop-l.invariant (subst P h.2 (sym c.if-is-in-atom.ensures))
+    All-more P cl c.loop-l.j l h.1 c.loop-l.invariant (subst P h.2 (sym c.if-is_in_atom.ensures))
 
 pub returns : goal.returns
 returns g c =
@@ -45,4 +45,4 @@ returns g c =
     let cs = g.B.Book.clauses c.args.book.now in
     let cl = get_or cs c.args.i [] in
     let P : Literal → Type 0 = λ m. atom_use v m.atom ≡ false in
-    sym (uses_none v cl (walked P cl c.loop-l.j (literal_is cs c.args.i c.loop-l.j _ c.in-default.ensures) c.loop-l.invariant))
+    sym (uses_none v cl (walked P cl c.loop-l.j (literal_is cs c.args.i c.loop-l.j _ c.in_default.ensures) c.loop-l.invariant))
