@@ -21,7 +21,7 @@ fn in_pile<B: Book>(
     i: usize,
     j: usize,
 ) -> Result<Option<Literal>, Refusal>
-    ensures { IfOk result (λ o. o ≡ literal_at (clauses book.now ++ unit a ∷ unit b ∷ unit d ∷ []) i j) }
+    ensures { IfOk result (λ o. o ≡ literal_at (B.clauses book.now ++ unit a ∷ unit b ∷ unit d ∷ []) i j) }
 {
     let mut first = Supposition::over(book);
     first.suppose(a)?;
@@ -34,7 +34,7 @@ fn in_pile<B: Book>(
 
 // Whether a book of any kind has no variable.
 fn is_ground<B: Book>(book: &B) -> bool
-    ensures { Decides result (All (All (GroundLiteral (counts book.now))) (clauses book.now)) }
+    ensures { Decides result (All (All (GroundLiteral (B.counts book.now))) (B.clauses book.now)) }
 {
     for i in 0..book.len() {
         let mut j = 0;

@@ -58,7 +58,7 @@ fn opposite(l: Literal) -> Literal
 
 // The book with the literal as a further clause.
 fn with_literal<B: Book>(book: B, l: Literal) -> Supposition<B>
-    requires ground_of { GroundLiteral (B.Book.counts book) l }
+    requires lawful { GroundLiteral (B.Book.counts book) l }
     requires few { length (B.Book.clauses book) ≤ 65527 }
     ensures counts { counts_with B.Book.counts result ≡ B.Book.counts book }
     ensures clauses { clauses_with B.Book.counts B.Book.clauses result ≡ B.Book.clauses book ++ unit l ∷ [] }

@@ -8,8 +8,8 @@ use Rattle.syntax.specs.Lawful.{GroundLiteral}
 use Rattle.books.proofs.Readings.{literal_of_list, literal_within, literal_has, literals_more, literals_all, walked}
 use Rattle.books_tests.proofs.tests.is_ground.Goals as goal
 
-pub overflow-add-j : goal.overflow-add-j
-overflow-add-j g c =
+pub overflow_add-j : goal.overflow_add-j
+overflow_add-j g c =
     let b = c.args.book.now in
     let h = literal_within (g.B.Book.counts b) (g.B.Book.clauses b) c.loop-i.i c.loop-l.j c.in-Some.l (g.B.Book.lawful b) c.in-Some.ensures in
     search rules
@@ -24,21 +24,21 @@ loop-l-preserved g c =
     let b = c.args.book.now in
     let P : Counts → Type 0 = λ q. GroundLiteral q c.in-Some.l in
     literals_more (GroundLiteral (g.B.Book.counts b)) (g.B.Book.clauses b) c.loop-i.i c.loop-l.j c.in-Some.l c.in-Some.ensures c.loop-l.invariant
-    (subst P c.counts.ensures (c.is-ground-literal.ensures.0 c.if-not-is-ground-literal.false))
+    (subst P c.counts.ensures (c.is_ground_literal.ensures.0 c.if-not-is_ground_literal.false))
 
 pub loop-i-preserved : goal.loop-i-preserved
 loop-i-preserved g c =
     let b = c.args.book.now in
     let Q = GroundLiteral (g.B.Book.counts b) in
     All-more (All Q) (g.B.Book.clauses b) c.loop-i.i [] (omega arith) c.loop-i.invariant
-    (literals_all Q (g.B.Book.clauses b) c.loop-i.i c.loop-l.j c.in-default.ensures c.loop-l.invariant)
+    (literals_all Q (g.B.Book.clauses b) c.loop-i.i c.loop-l.j c.in_default.ensures c.loop-l.invariant)
 
-pub returns-then-not-is-ground-literal : goal.returns-then-not-is-ground-literal
-returns-then-not-is-ground-literal g c =
+pub returns-then-not-is_ground_literal : goal.returns-then-not-is_ground_literal
+returns-then-not-is_ground_literal g c =
     let b = c.args.book.now in
     let Q = GroundLiteral (g.B.Book.counts b) in
     let P : Counts → Type 0 = λ q. GroundLiteral q c.in-Some.l → ⊥ in
-    let n = subst P c.counts.ensures (not_from_Decides c.is-ground-literal.result c.is-ground-literal.ensures c.if-not-is-ground-literal.true) in (
+    let n = subst P c.counts.ensures (not_from_Decides c.is_ground_literal.result c.is_ground_literal.ensures c.if-not-is_ground_literal.true) in (
       (λ e. absurd (false≢true e)),
       (λ f. absurd (n (literal_has Q (g.B.Book.clauses b) c.loop-i.i c.loop-l.j c.in-Some.l c.in-Some.ensures (All-get_or (All Q) (g.B.Book.clauses b) c.loop-i.i [] (omega arith) f)))),
     )

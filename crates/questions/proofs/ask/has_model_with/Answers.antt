@@ -10,9 +10,9 @@ returns g c =
     let k = g.B.Book.counts c.args.book.now in
     let cs = g.B.Book.clauses c.args.book.now ++ unit c.args.l ∷ [] in
     let t = g.T.BranchTable in
-    let w = c.with-literal.ensures in
-    let f = c.find-branch.ensures in
+    let w = c.with_literal.ensures in
+    let f = c.find_branch.ensures in
     let m = lent t c.args.table.now c.args.trail.now c.args.choices.now [] in
-    let m' = lent t c.find-branch.new.table c.find-branch.new.trail c.find-branch.new.choices [] in
-    let s = searched_at _ k _ cs m m' c.find-branch.result w.counts w.clauses (f.branched []) f.right c.requires.sizes in
-    record { right = subst (λ (r : Bool). Decides r (Consistent k cs)) (sym c.is-consistent.ensures) s.right; kept = s.kept }
+    let m' = lent t c.find_branch.new.table c.find_branch.new.trail c.find_branch.new.choices [] in
+    let s = searched_at _ k _ cs m m' c.find_branch.result w.counts w.clauses (f.branched []) f.right c.requires.sizes in
+    record { right = subst (λ (r : Bool). Decides r (Consistent k cs)) (sym c.is_consistent.ensures) s.right; kept = s.kept }

@@ -9,7 +9,7 @@ returns-in-Ok g c =
     let t = g.T.BranchTable in
     let h = c.in-Ok.ensures in
     record {
-      asked = λ model. names_asked k cs c.args.a c.args.b c.same-literal.result (lent t c.args.table.now c.args.trail.now c.args.choices.now model) (lent t c.holds.new.table c.holds.new.trail c.holds.new.choices model) c.same-literal.ensures c.in-Ok.answer c.sameness.result c.sameness.ensures (h.asked model);
+      asked = λ model. names_asked k cs c.args.a c.args.b c.same_literal.result (lent t c.args.table.now c.args.trail.now c.args.choices.now model) (lent t c.holds.new.table c.holds.new.trail c.holds.new.choices model) c.same_literal.ensures c.in-Ok.answer c.sameness.result c.sameness.ensures (h.asked model);
       kept = tt;
     }
 
@@ -20,6 +20,6 @@ returns-in-Err g c =
     let t = g.T.BranchTable in
     let h = c.in-Err.ensures in
     record {
-      asked = λ model. names_refused k cs c.args.a c.args.b c.same-literal.result (lent t c.args.table.now c.args.trail.now c.args.choices.now model) (lent t c.holds.new.table c.holds.new.trail c.holds.new.choices model) c.same-literal.ensures c.in-Err.cause (h.asked model);
+      asked = λ model. names_refused k cs c.args.a c.args.b c.same_literal.result (lent t c.args.table.now c.args.trail.now c.args.choices.now model) (lent t c.holds.new.table c.holds.new.trail c.holds.new.choices model) c.same_literal.ensures c.in-Err.cause (h.asked model);
       kept = h.kept;
     }
