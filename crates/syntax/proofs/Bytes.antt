@@ -1,15 +1,14 @@
 -- The bytes of literals: each part is read exactly when it was written so.
-use Rattle.std.proofs.Common.{◌≡◌, ℕ, ◌+◌, ◌-◌, ◌<◌, ◌≤◌, Bool, true, false, cond, ◌&&◌, eqb, ltb, List, [], ◌∷◌, length, get_or, Some, None, Option, sym, refl, ap, ◌∙◌, subst, arith}
+use Rattle.std.proofs.Common.{◌≡◌, ℕ, ◌+◌, ◌-◌, Bool, true, false, cond, ◌&&◌, eqb, ltb, List, [], ◌∷◌, length, get_or, Some, None, Option, sym, refl, ap, ◌∙◌, subst, arith}
 use Rattle.std.proofs.lemmas.Bool.Decides.{nat_tests}
 use Rattle.std.proofs.lemmas.Bool.{cond_both, eqb-true, and_parts, ltb-true}
 use Rattle.syntax.specs.declared.types.Term.{Term}
 use Rattle.syntax.specs.declared.types.Term.TheVariants.{Name, Var}
 use Rattle.syntax.specs.declared.types.Atom.{Atom}
 use Rattle.syntax.specs.declared.types.Atom.TheVariants.{Same, Prop, Rel}
-use Rattle.syntax.specs.declared.types.Literal.{Literal}
 use Rattle.syntax.specs.declared.counts.Counts.{Counts}
-use Rattle.syntax.specs.Lawful.{LawfulTerm, AtomBy, LawfulLiteral}
-use Rattle.syntax.specs.Codes.{bind, term_of, atom_read, term_code, atom_code, sign_code, literal_code, Decoded}
+use Rattle.syntax.specs.Lawful.{LawfulTerm, AtomBy}
+use Rattle.syntax.specs.Codes.{bind, term_of, atom_read, term_code, atom_code, sign_code, Decoded}
 
 abbrev LawfulAtom : Counts → Atom → Type 0
 LawfulAtom c = AtomBy c (LawfulTerm c)

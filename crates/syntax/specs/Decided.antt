@@ -1,5 +1,5 @@
 -- Each test of Lawful tells of its fact.
-use Rattle.std.specs.Prelude.{◌≡◌, Bool, true, false, List, Decides, refl}
+use Rattle.std.specs.Prelude.{Bool, List, Decides, refl}
 use Rattle.std.specs.List.{AllByRecursion as All}
 use Rattle.std.proofs.lemmas.Bool.Decides.{Decides-ltb, Decides-and}
 use Rattle.std.proofs.ByRecursion.{Decides-by_and}

@@ -2,7 +2,7 @@
 use Rattle.std.specs.Prelude.{◌≡◌, ℕ, ◌+◌, ◌*◌, ◌<◌, ◌≤◌, Some, None, Option}
 use Rattle.syntax.specs.declared.types.Ground.{Ground}
 use Rattle.syntax.specs.declared.types.Ground.TheVariants.{Same, Prop, Rel}
-use Rattle.syntax.specs.declared.types.Term.TheVariants.{Name, Var}
+use Rattle.syntax.specs.declared.types.Term.TheVariants.{Name}
 use Rattle.syntax.specs.declared.types.Atom.{Atom}
 use Rattle.syntax.specs.declared.types.Atom.TheVariants.{Same as Same', Prop as Prop', Rel as Rel'}
 use Rattle.syntax.specs.declared.counts.Counts.{Counts}

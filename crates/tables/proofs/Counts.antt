@@ -1,10 +1,9 @@
 -- How many stand, after a change of one mark.
-use Rattle.std.proofs.Common.{◌≡◌, ℕ, zero, suc, ◌+◌, ◌<◌, ◌≤◌, Bool, true, false, List, [], ◌∷◌, length, get_or, set, Some, None, Ok, Err, Result, sym, refl, ap, ◌∙◌, inl, inr, le_of_suc-le-suc, arith}
+use Rattle.std.proofs.Common.{◌≡◌, ℕ, zero, suc, ◌+◌, ◌<◌, Bool, true, false, List, [], ◌∷◌, length, get_or, set, Ok, Err, sym, refl, ap, ◌∙◌, le_of_suc-le-suc, arith}
 use Rattle.std.proofs.lemmas.List.{set-get_or, length-set, length-map}
 use Rattle.syntax.specs.declared.types.Mark.{Mark}
-use Rattle.syntax.specs.declared.types.Mark.TheVariants.{Open, Yes, No}
-use Rattle.syntax.specs.declared.types.Refusal.{Refusal}
-use Rattle.tables.specs.Marks.{stands, standing, signed, cleared, Told, Untold, tell_refusal, untell_refusal}
+use Rattle.syntax.specs.declared.types.Mark.TheVariants.{Open}
+use Rattle.tables.specs.Marks.{stands, standing, signed}
 use Rattle.tables.specs.Counting.{OpenFrom, OneMore, OneLess, NoneLeft, AtMost, Fewer, ToldReach, UntoldReach, ClearedReach, ToldOnce, UntoldOnce}
 use Rattle.tables.specs.Within.{stands_le, standing_le}
 use Rattle.tables.proofs.Refused.{tell_done, untell_done}

@@ -1,10 +1,10 @@
 -- What a change of the rows does to the marks.
-use Rattle.std.proofs.Common.{◌≡◌, ℕ, zero, suc, ◌+◌, ◌<◌, ◌≤◌, Bool, true, false, ◌≢◌, List, [], ◌∷◌, ◌++◌, length, get_or, take, set, replicate, sym, refl, ap, ◌∙◌, subst, inl, inr, le_of_suc-le-suc, arith}
-use Rattle.std.proofs.lemmas.List.{length-set, length-replicate, length_push, get_or-set_same, get_or-set_other, set-set, set_comm, set-get_or, set_past, get_or_past, get_or_append_left, get_or_push, take_more, take_more_set, length-take-le}
-use Rattle.std.proofs.lemmas.Bool.{cases_lt, cases_eq}
+use Rattle.std.proofs.Common.{◌≡◌, ℕ, zero, suc, ◌+◌, ◌<◌, ◌≤◌, Bool, ◌≢◌, List, [], ◌∷◌, ◌++◌, length, get_or, take, set, replicate, sym, refl, ap, ◌∙◌, subst, inl, inr, le_of_suc-le-suc, arith}
+use Rattle.std.proofs.lemmas.List.{length-set, length-replicate, length_push, get_or-set_same, get_or-set_other, set-set, set_comm, set_past, get_or_past, get_or_append_left, get_or_push, take_more, take_more_set, length-take-le}
+use Rattle.std.proofs.lemmas.Bool.{cases_lt}
 use Rattle.tables.specs.declared.row.Row.{Row}
 use Rattle.syntax.specs.declared.types.Mark.{Mark}
-use Rattle.syntax.specs.declared.types.Mark.TheVariants.{Open, Yes, No}
+use Rattle.syntax.specs.declared.types.Mark.TheVariants.{Open}
 use Rattle.tables.specs.Marks.{stands, standing, signed, cleared}
 use Rattle.tables.specs.Listed.{all_open, listed, Each}
 use Rattle.tables.proofs.Counts.{standing_set, stands_signed, set_open}

@@ -1,9 +1,9 @@
 -- How many stand, whatever the table.
-use Rattle.std.specs.Prelude.{◌≡◌, ℕ, ◌+◌, ◌<◌, ◌≤◌, Bool, List, length, Ok, Err, Result, slice_index_or}
+use Rattle.std.specs.Prelude.{◌≡◌, ℕ, ◌+◌, ◌<◌, ◌≤◌, Bool, List, length, Ok, Result, slice_index_or}
 use Rattle.syntax.specs.declared.types.Mark.{Mark}
 use Rattle.syntax.specs.declared.types.Mark.TheVariants.{Open}
 use Rattle.syntax.specs.declared.types.Refusal.{Refusal}
-use Rattle.tables.specs.Marks.{stands, standing, cleared, Told, Untold}
+use Rattle.tables.specs.Marks.{standing, cleared, Told, Untold}
 
 -- nothing at or above A stands
 abbrev pub OpenFrom : ℕ → List Mark → Type 0

@@ -10,7 +10,7 @@ use Rattle.comparison.proofs.parting.deny.Goals as goal
 pub loop-l-init : goal.loop-l-init
 loop-l-init g c =
     let b = g.B.Book in
-    (refl, record { so_many = ap length c.requires.own_val; so = sym (append-nil (clauses_with b.counts b.clauses c.args.layer.now)) })
+    (refl, record { so_many = ap length c.requires.own; so = sym (append-nil (clauses_with b.counts b.clauses c.args.layer.now)) })
 
 pub overflow-add-j : goal.overflow-add-j
 overflow-add-j g c =

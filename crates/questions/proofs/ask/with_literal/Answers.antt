@@ -17,5 +17,5 @@ returns g c =
     let k = counts_with b.counts before in
     let cs = clauses_with b.counts b.clauses before in
     let h : GroundLiteral k l = subst (λ (q : Counts). GroundLiteral q l) (sym o.counts) c.requires.lawful in
-    let e = supposed_done k cs (own_of before) l c.suppose.result (clauses_with b.counts b.clauses after) (own_of after) s.done h (omega (arith, ap length o.own_val)) (omega (arith, ap length o.clauses, c.requires.few)) in
+    let e = supposed_done k cs (own_of before) l c.suppose.result (clauses_with b.counts b.clauses after) (own_of after) s.done h (omega (arith, ap length o.own)) (omega (arith, ap length o.clauses, c.requires.few)) in
     record { counts = s.counts ∙ o.counts; clauses = e.0 ∙ ap (λ (xs : List (List Literal)). xs ++ unit l ∷ []) o.clauses }

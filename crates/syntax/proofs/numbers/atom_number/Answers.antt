@@ -1,4 +1,4 @@
-use Rattle.std.proofs.Common.{◌≡◌, ℕ, ◌+◌, ◌*◌, sym, ap, ◌∙◌, ap₂}
+use Rattle.std.proofs.Common.{ℕ, ◌+◌, ◌*◌, sym, ap, ◌∙◌, ap₂}
 use Rattle.syntax.specs.Numbers.{number_of}
 use Rattle.syntax.proofs.Laws.{numbered}
 use Rattle.syntax.proofs.numbers.atom_number.Goals as goal

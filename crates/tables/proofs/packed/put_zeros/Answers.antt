@@ -1,4 +1,4 @@
-use Rattle.std.proofs.Common.{◌≡◌, min, length, set, refl, ap, ◌∙◌, arith}
+use Rattle.std.proofs.Common.{◌≡◌, min, length, set, ap, ◌∙◌, arith}
 use Rattle.tables.specs.Packed.{zeroed}
 use Rattle.tables.proofs.Packs.{zeroed_more}
 use Rattle.tables.proofs.packed.put_zeros.Goals as goal

@@ -1,8 +1,7 @@
-use Rattle.std.proofs.Common.{◌≡◌, ◌+◌, ◌-◌, ◌<◌, [], length, get_or, take, set, sym, refl, ap, ◌∙◌, arith}
+use Rattle.std.proofs.Common.{◌≡◌, ◌+◌, ◌-◌, [], length, get_or, take, set, sym, refl, ap, ◌∙◌, arith}
 use Rattle.std.proofs.lemmas.List.{length-take-le}
 use Rattle.syntax.specs.declared.types.Mark.TheVariants.{Open}
 use Rattle.tables.specs.Marks.{stands}
-use Rattle.tables.specs.Memory.{Loan}
 use Rattle.tables.specs.declared.listed.ListedTable.{ListedTable}
 use Rattle.tables.specs.Listed.{listed}
 use Rattle.tables.proofs.Refused.{far_untell, open_untell, done_untell}

@@ -1,4 +1,4 @@
-use Rattle.std.proofs.Common.{◌≡◌, refl, ap, ◌∙◌}
+use Rattle.std.proofs.Common.{refl, ap, ◌∙◌}
 use Rattle.tables.specs.Packed.{packed_marks, packed_reach}
 use Rattle.tables.proofs.Packs.{wiped_open, wiped_reach}
 use Rattle.tables.proofs.packed.PackedTable.new.Goals as goal

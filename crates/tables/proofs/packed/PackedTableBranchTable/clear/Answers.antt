@@ -1,5 +1,4 @@
-use Rattle.std.proofs.Common.{refl, ap, ◌∙◌}
-use Rattle.tables.specs.Memory.{Loan}
+use Rattle.std.proofs.Common.{ap, ◌∙◌}
 use Rattle.tables.specs.Packed.{packed_marks, packed_reach, beyond}
 use Rattle.tables.proofs.Packs.{wiped_cleared, wiped_reach, wiped_beyond}
 use Rattle.tables.proofs.packed.PackedTableBranchTable.clear.Goals as goal

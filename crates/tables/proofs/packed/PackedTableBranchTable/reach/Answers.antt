@@ -1,4 +1,4 @@
-use Rattle.std.proofs.Common.{sym, ◌∙◌, arith}
+use Rattle.std.proofs.Common.{arith}
 use Rattle.tables.specs.Within.{packed_length}
 use Rattle.tables.proofs.packed.PackedTableBranchTable.reach.Goals as goal
 

@@ -1,5 +1,4 @@
-use Rattle.std.proofs.Common.{◌≡◌, ◌*◌, ◌<◌, min, length, set, refl, ap, ◌∙◌, arith}
-use Rattle.tables.specs.Memory.{Loan}
+use Rattle.std.proofs.Common.{◌*◌, ◌<◌, min, length, set, refl, ap, ◌∙◌, arith}
 use Rattle.tables.specs.Packed.{packed_marks, packed_reach}
 use Rattle.tables.specs.Within.{packed_length}
 use Rattle.tables.proofs.Counts.{standing_lt}

@@ -1,6 +1,5 @@
-use Rattle.std.proofs.Common.{◌≡◌, ◌*◌, ◌<◌, min, length, refl, ap, ◌∙◌, arith}
-use Rattle.tables.specs.Memory.{Loan}
-use Rattle.tables.specs.Packed.{packed_marks, packed_reach}
+use Rattle.std.proofs.Common.{◌*◌, min, refl, ap, arith}
+use Rattle.tables.specs.Packed.{packed_marks}
 use Rattle.tables.specs.Within.{packed_length}
 use Rattle.tables.proofs.Packs.{stood, lay}
 use Rattle.tables.proofs.Refused.{far_untell, open_untell, done_untell}

@@ -1,4 +1,4 @@
-use Rattle.std.proofs.Common.{◌<◌, true, false, length, refl, arith}
+use Rattle.std.proofs.Common.{◌<◌, length, refl, arith}
 use Rattle.std.proofs.lemmas.List.{take_more_set, length-take-le, length-set}
 use Rattle.tables.proofs.stack.Stack.push.Goals as goal
 
