@@ -1,6 +1,6 @@
 -- A file by its blocks and places: what is written is read, and right blocks make a file.
 use Rattle.std.proofs.Common.{◌≡◌, ℕ, zero, suc, ◌+◌, ◌-◌, ◌*◌, ◌/◌, ◌%◌, ◌<◌, ◌≤◌, Bool, true, false, ◌&&◌, eqb, List, [], ◌∷◌, map, length, get_or, take, Decides, sym, refl, ap, ◌∙◌, subst, ap₂, add-one, arith}
-use Rattle.std.specs.List.{range_with_len, flat_map, AllByRecursion as All}
+use Rattle.std.specs.List.{range_with_len, flat_map, AllByRecursion}
 use Rattle.std.proofs.lemmas.List.{take_all, take-take, get_or-take, ext_get_or}
 use Rattle.std.proofs.ByRecursion.{All-get_or, All-from_get_or}
 use Rattle.std.proofs.lemmas.List.FromFn.{length-range_with_len, get_or-range_with_len, length-map-range_with_len, get_or-map-range_with_len, fill_by_all}
@@ -79,7 +79,7 @@ clause_back c cl h =
     sym (fill_by_all f cl (length cl) blank refl (λ k i. sym (literal_back c (get_or cl k blank) (part (2 + 5 * k) 5 (clause_bytes cl)) (All-get_or (LawfulLiteral c) cl k blank i h.each) (sym (literal_place cl k blank i)))))
 
 -- clause k of a clause block, and clause 12 b + k of a file
-pub block_place : (c : Counts) (cls : List (List Literal)) (block : List ℕ) (k : ℕ) → All (Lawful c) cls → take 510 block ≡ clauses_front cls → k < length cls → k < 12 → part (4 + 42 * k) 42 block ≡ clause_bytes (get_or cls k [])
+pub block_place : (c : Counts) (cls : List (List Literal)) (block : List ℕ) (k : ℕ) → AllByRecursion (Lawful c) cls → take 510 block ≡ clauses_front cls → k < length cls → k < 12 → part (4 + 42 * k) 42 block ≡ clause_bytes (get_or cls k [])
 block_place c cls block k a s h f =
     sym (part_front (4 + 42 * k) 42 510 block (omega arith)) ∙ ap (part (4 + 42 * k) 42) s ∙ clause_place c cls k a h
 
@@ -93,7 +93,7 @@ split : (i : ℕ) → i ≡ 12 * (i / 12) + i % 12
 split i = omega arith
 
 -- the places of a file
-pub file_place : (c : Counts) (cls : List (List Literal)) (i : ℕ) → All (Lawful c) cls → i < length cls → part (place_of i) 42 (file_of c cls) ≡ clause_bytes (get_or cls i [])
+pub file_place : (c : Counts) (cls : List (List Literal)) (i : ℕ) → AllByRecursion (Lawful c) cls → i < length cls → part (place_of i) 42 (file_of c cls) ≡ clause_bytes (get_or cls i [])
 unfolding block_of
 file_place c cls i a h =
     let b = i / 12 in
@@ -108,7 +108,7 @@ file_place c cls i a h =
     ap clause_bytes (share_at cls b k (omega arith) ∙ ap (λ (j : ℕ). get_or cls j []) (sym (split i)))
 
 -- what was written of clauses is read
-pub clauses_back : (c : Counts) (cls : List (List Literal)) → All (Lawful c) cls → clauses_at c (length cls) (file_of c cls) ≡ cls
+pub clauses_back : (c : Counts) (cls : List (List Literal)) → AllByRecursion (Lawful c) cls → clauses_at c (length cls) (file_of c cls) ≡ cls
 unfolding clauses_at
 clauses_back c cls a =
     sym (fill_by_all (λ i. clause_in c (part (place_of i) 42 (file_of c cls))) cls (length cls) [] refl (λ i h. sym (ap (clause_in c) (file_place c cls i a h) ∙ clause_back c (get_or cls i []) (All-get_or (Lawful c) cls i [] h a))))
@@ -117,16 +117,16 @@ clauses_back c cls a =
 abbrev file_count : List (List Literal) → ℕ
 file_count cls = 1 + blocks_for (length cls)
 
-pub count_is : (c : Counts) (cls : List (List Literal)) → All (Lawful c) cls → block_count (file_of c cls) ≡ file_count cls
+pub count_is : (c : Counts) (cls : List (List Literal)) → AllByRecursion (Lawful c) cls → block_count (file_of c cls) ≡ file_count cls
 count_is c cls a = omega (arith, file_length c cls a)
 
-block_check : (c : Counts) (cls : List (List Literal)) → All (Lawful c) cls → (b : ℕ) → CheckRight (block_of c cls b)
+block_check : (c : Counts) (cls : List (List Literal)) → AllByRecursion (Lawful c) cls → (b : ℕ) → CheckRight (block_of c cls b)
 unfolding block_of
 block_check c cls a zero = checked_right (head_front c (length cls)) (head_length c (length cls))
 block_check c cls a (suc b) =
     checked_right (clauses_front (share b cls)) (clauses_length c (share b cls) (share_lawful c cls b a) (share_few cls b))
 
-pub file_head : (c : Counts) (cls : List (List Literal)) → All (Lawful c) cls → length cls ≤ 256 → HeadIs (file_of c cls) c (length cls)
+pub file_head : (c : Counts) (cls : List (List Literal)) → AllByRecursion (Lawful c) cls → length cls ≤ 256 → HeadIs (file_of c cls) c (length cls)
 unfolding block_of
 file_head c cls a f = record {
   few = f;
@@ -134,7 +134,7 @@ file_head c cls a f = record {
   says = ap (take 510) (file_block c cls a 0 (omega arith)) ∙ checked_take (head_front c (length cls)) (head_length c (length cls));
 }
 
-file_layout : (c : Counts) (cls : List (List Literal)) → All (Lawful c) cls → length cls ≤ 256 → (b : ℕ) → b < file_count cls → LayoutRight (file_of c cls) b
+file_layout : (c : Counts) (cls : List (List Literal)) → AllByRecursion (Lawful c) cls → length cls ≤ 256 → (b : ℕ) → b < file_count cls → LayoutRight (file_of c cls) b
 unfolding block_of
 file_layout c cls a f zero h = (c, length cls, file_head c cls a f)
 file_layout c cls a f (suc b) h =
@@ -142,7 +142,7 @@ file_layout c cls a f (suc b) h =
     let mine = share_lawful c cls b a in
     (c, length cls, file_head c cls a f, record { clauses = own; count = share_count cls b; lawful = mine; says = ap (take 510) (file_block c cls a (suc b) h) ∙ checked_take (clauses_front own) (clauses_length c own mine (share_few cls b)) })
 
-written_right : (c : Counts) (cls : List (List Literal)) → All (Lawful c) cls → length cls ≤ 256 → Right (file_of c cls)
+written_right : (c : Counts) (cls : List (List Literal)) → AllByRecursion (Lawful c) cls → length cls ≤ 256 → Right (file_of c cls)
 written_right c cls a f =
     let n = file_length c cls a in
     let m = count_is c cls a in

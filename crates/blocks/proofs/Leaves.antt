@@ -1,7 +1,7 @@
 -- What the tests of a block's parts come to.
 use Rattle.std.proofs.Common.{◌≡◌, ℕ, zero, ◌+◌, ◌-◌, ◌*◌, ◌/◌, ◌%◌, ◌<◌, ◌≤◌, false, List, [], ◌∷◌, ◌++◌, length, get_or, take, drop, replicate, sum, sym, refl, ap, ◌∙◌, ap₂, arith}
 use native.Mathlib.Nat.{mul-div_cancel_left}
-use Rattle.std.specs.List.{flat_map, AllByRecursion as All}
+use Rattle.std.specs.List.{flat_map, AllByRecursion}
 use Rattle.std.proofs.lemmas.List.{drop_more, drop_all, take_more, replicate_more, take_rest, take-append-drop, length-take-le, length-drop}
 use Rattle.syntax.specs.declared.types.Atom.TheVariants.{Same}
 use Rattle.syntax.specs.declared.types.Term.TheVariants.{Name}
@@ -60,7 +60,7 @@ two (x ∷ []) h = absurd (omega arith)
 two (x ∷ y ∷ b) h = refl
 
 -- what is made of so many pieces has so many elements
-pub made_count : {X : Type 0} (f : X → List ℕ) (m : ℕ) (xs : List X) (n : ℕ) (bytes : List ℕ) → All (λ x. length (f x) ≡ m) xs → 0 < m → bytes ≡ flat_map f xs → length bytes ≡ m * n → length xs ≡ n
+pub made_count : {X : Type 0} (f : X → List ℕ) (m : ℕ) (xs : List X) (n : ℕ) (bytes : List ℕ) → AllByRecursion (λ x. length (f x) ≡ m) xs → 0 < m → bytes ≡ flat_map f xs → length bytes ≡ m * n → length xs ≡ n
 made_count f m xs n bytes a z e h =
     sym (mul-div_cancel_left (length xs) z) ∙ ap (λ j. j / m) (sym (joined_length f m xs a) ∙ ap length (sym e) ∙ h) ∙
     mul-div_cancel_left n z

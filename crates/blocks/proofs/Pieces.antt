@@ -1,7 +1,7 @@
 -- Lists made of pieces of one length.
 use Rattle.std.proofs.Common.{◌≡◌, ℕ, zero, suc, ◌+◌, ◌-◌, ◌*◌, ◌/◌, ◌<◌, ◌≤◌, List, [], ◌∷◌, ◌++◌, length, get_or, take, drop, sym, refl, ap, ◌∙◌, ap₂, le_of_suc-le-suc, not-suc-le-zero, mul-zero, mul-suc, arith, take-add}
 use native.Mathlib.Nat.{mul-div_cancel_left}
-use Rattle.std.specs.List.{flat_map, AllByRecursion as All}
+use Rattle.std.specs.List.{flat_map, AllByRecursion}
 use Rattle.std.proofs.lemmas.List.{append_assoc, append-nil, length-append, length-take-le, length-drop, take_at, drop_at, take-take, drop-drop, drop-take, nil_from_length, take-append-drop}
 use Rattle.std.proofs.ByRecursion.{All-get_or}
 use Rattle.blocks.specs.Reading.{part}
@@ -29,7 +29,7 @@ first : (m : ℕ) (xs : List ℕ) → part (m * 0) m xs ≡ take m xs
 first m xs = ap (λ n. part n m xs) (mul-zero m)
 
 -- piece k of a list that is joined of pieces
-pub piece : {X : Type 0} (f : X → List ℕ) (m : ℕ) (xs : List X) (rest : List ℕ) (k : ℕ) (d : X) → All (λ x. length (f x) ≡ m) xs → k < length xs → part (m * k) m (flat_map f xs ++ rest) ≡ f (get_or xs k d)
+pub piece : {X : Type 0} (f : X → List ℕ) (m : ℕ) (xs : List X) (rest : List ℕ) (k : ℕ) (d : X) → AllByRecursion (λ x. length (f x) ≡ m) xs → k < length xs → part (m * k) m (flat_map f xs ++ rest) ≡ f (get_or xs k d)
 piece f m [] rest k d a h = absurd (not-suc-le-zero h)
 piece f m (x ∷ xs) rest zero d a h =
     first m ((f x ++ flat_map f xs) ++ rest) ∙ ap (take m) (append_assoc (f x) (flat_map f xs) rest) ∙
@@ -41,7 +41,7 @@ piece f m (x ∷ xs) rest (suc k) d a h =
     piece f m xs rest k d a.1 (le_of_suc-le-suc h)
 
 -- how long it is
-pub joined_length : {X : Type 0} (f : X → List ℕ) (m : ℕ) (xs : List X) → All (λ x. length (f x) ≡ m) xs → length (flat_map f xs) ≡ m * length xs
+pub joined_length : {X : Type 0} (f : X → List ℕ) (m : ℕ) (xs : List X) → AllByRecursion (λ x. length (f x) ≡ m) xs → length (flat_map f xs) ≡ m * length xs
 joined_length f m [] a = sym (mul-zero m)
 joined_length f m (x ∷ xs) a =
     length-append (f x) (flat_map f xs) ∙ omega (arith, a.0, joined_length f m xs a.1, mul-suc m (length xs))
@@ -55,7 +55,7 @@ gather f m (x ∷ xs) d bytes g =
     ap₂ ◌++◌ (sym (first m bytes) ∙ g 0 (omega arith)) (gather f m xs d (drop m bytes) (λ k h. sym (shift m k bytes) ∙ g (suc k) (omega arith)))
 
 -- bytes each piece of which is that of some x are those of a list
-pub found : {X : Type 0} (f : X → List ℕ) (P : X → Type 0) (m n : ℕ) (bytes : List ℕ) → length bytes ≡ m * n → ((k : ℕ) → k < n → (x : X) × P x × (f x ≡ part (m * k) m bytes)) → (xs : List X) × (length xs ≡ n) × All P xs × (bytes ≡ flat_map f xs)
+pub found : {X : Type 0} (f : X → List ℕ) (P : X → Type 0) (m n : ℕ) (bytes : List ℕ) → length bytes ≡ m * n → ((k : ℕ) → k < n → (x : X) × P x × (f x ≡ part (m * k) m bytes)) → (xs : List X) × (length xs ≡ n) × AllByRecursion P xs × (bytes ≡ flat_map f xs)
 found f P m zero bytes h g = ([], refl, tt, nil_from_length bytes (h ∙ mul-zero m))
 found f P m (suc n) bytes h g =
     let x = g 0 (omega arith) in
@@ -64,7 +64,7 @@ found f P m (suc n) bytes h g =
     (x.0 ∷ r.0, ap suc r.1, (x.1, r.2), sym (take-append-drop m bytes) ∙ ap₂ ◌++◌ (sym (first m bytes) ∙ sym x.2) r.3)
 
 -- and back: each piece of the bytes of a list is that of an element
-pub lost : {X : Type 0} (f : X → List ℕ) (P : X → Type 0) (m n : ℕ) (xs : List X) (bytes : List ℕ) (d : X) (k : ℕ) → All (λ x. length (f x) ≡ m) xs → 0 < m → length bytes ≡ m * n → All P xs → bytes ≡ flat_map f xs → k < n → P (get_or xs k d) × (f (get_or xs k d) ≡ part (m * k) m bytes)
+pub lost : {X : Type 0} (f : X → List ℕ) (P : X → Type 0) (m n : ℕ) (xs : List X) (bytes : List ℕ) (d : X) (k : ℕ) → AllByRecursion (λ x. length (f x) ≡ m) xs → 0 < m → length bytes ≡ m * n → AllByRecursion P xs → bytes ≡ flat_map f xs → k < n → P (get_or xs k d) × (f (get_or xs k d) ≡ part (m * k) m bytes)
 lost f P m n xs bytes d k a z h p e i =
     let size : m * length xs ≡ m * n = sym (joined_length f m xs a) ∙ ap length (sym e) ∙ h in
     let same : length xs ≡ n = sym (mul-div_cancel_left (length xs) z) ∙ ap (λ j. j / m) size ∙ mul-div_cancel_left n z in
@@ -72,6 +72,6 @@ lost f P m n xs bytes d k a z h p e i =
     let at = ap (part (m * k) m) (append-nil (flat_map f xs)) in
     (All-get_or P xs k d j p, sym (ap (part (m * k) m) e ∙ sym at ∙ piece f m xs [] k d a j))
 
-pub all_of : {X : Type 0} (P : X → Type 0) → ((x : X) → P x) → (xs : List X) → All P xs
+pub all_of : {X : Type 0} (P : X → Type 0) → ((x : X) → P x) → (xs : List X) → AllByRecursion P xs
 all_of P h [] = tt
 all_of P h (x ∷ xs) = (h x, all_of P h xs)

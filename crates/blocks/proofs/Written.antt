@@ -1,6 +1,6 @@
 -- The format by its places: how long its parts are, and what stands where.
 use Rattle.std.proofs.Common.{◌≡◌, ℕ, zero, suc, ◌+◌, ◌-◌, ◌*◌, ◌%◌, ◌<◌, ◌≤◌, min, List, [], ◌++◌, length, get_or, take, drop, replicate, sum, sym, refl, ap, ◌∙◌, ap₂, arith}
-use Rattle.std.specs.List.{range_with_len, flat_map, AllByRecursion as All}
+use Rattle.std.specs.List.{range_with_len, flat_map, AllByRecursion}
 use Rattle.std.proofs.lemmas.List.{append-nil, length-append, length-replicate, length-take, length-drop, take_at, drop_at, drop-drop, take-append-drop, get_or-take, get_or-drop}
 use Rattle.std.proofs.ByRecursion.{All-take, All-drop, All-weaker}
 use Rattle.std.proofs.lemmas.List.FromFn.{length-range_with_len, get_or-range_with_len}
@@ -24,7 +24,7 @@ atom_length (Rel r t u) = refl
 pub literal_length : (l : Literal) → length (literal_code l) ≡ 5
 literal_length l = ap suc (atom_length l.atom)
 
-pub fives : (cl : List Literal) → All (λ l. length (literal_code l) ≡ 5) cl
+pub fives : (cl : List Literal) → AllByRecursion (λ l. length (literal_code l) ≡ 5) cl
 fives cl = all_of (λ l. length (literal_code l) ≡ 5) literal_length cl
 
 -- padding
@@ -58,7 +58,7 @@ literal_place cl j d h =
     ap (take 5) (sym (drop-drop (5 * j) 2 (clause_bytes cl))) ∙
     piece literal_code 5 cl (replicate (40 - length (flat_map literal_code cl)) 0) j d (fives cl) h
 
-pub fortytwos : (c : Counts) (cls : List (List Literal)) → All (Lawful c) cls → All (λ cl. length (clause_bytes cl) ≡ 42) cls
+pub fortytwos : (c : Counts) (cls : List (List Literal)) → AllByRecursion (Lawful c) cls → AllByRecursion (λ cl. length (clause_bytes cl) ≡ 42) cls
 fortytwos c cls a = All-weaker (Lawful c) (λ cl. length (clause_bytes cl) ≡ 42) (λ cl l. clause_length cl l.few) cls a
 
 -- bytes 0 to 509 of a block
@@ -70,13 +70,13 @@ pub head_length : (c : Counts) (n : ℕ) → length (head_front c n) ≡ 510
 unfolding head_front
 head_length c n = front_length 0 0 _ (omega arith)
 
-pub clauses_length : (c : Counts) (cls : List (List Literal)) → All (Lawful c) cls → length cls ≤ 12 → length (clauses_front cls) ≡ 510
+pub clauses_length : (c : Counts) (cls : List (List Literal)) → AllByRecursion (Lawful c) cls → length cls ≤ 12 → length (clauses_front cls) ≡ 510
 unfolding clauses_front
 clauses_length c cls a h =
     let e = joined_length clause_bytes 42 cls (fortytwos c cls a) in
     front_length 1 (length cls) (flat_map clause_bytes cls) (omega arith)
 
-pub clause_place : (c : Counts) (cls : List (List Literal)) (k : ℕ) → All (Lawful c) cls → k < length cls → part (4 + 42 * k) 42 (clauses_front cls) ≡ clause_bytes (get_or cls k [])
+pub clause_place : (c : Counts) (cls : List (List Literal)) (k : ℕ) → AllByRecursion (Lawful c) cls → k < length cls → part (4 + 42 * k) 42 (clauses_front cls) ≡ clause_bytes (get_or cls k [])
 unfolding clauses_front front padded
 clause_place c cls k a h =
     ap (take 42) (sym (drop-drop (42 * k) 4 (clauses_front cls))) ∙
@@ -102,7 +102,7 @@ checked_from block f r e =
     sym (take-append-drop 510 block) ∙ ap₂ ◌++◌ e (r ∙ ap (λ g. two_bytes (sum g % 65536)) e)
 
 -- the clauses of a clause block
-pub share_lawful : (c : Counts) (cls : List (List Literal)) (b : ℕ) → All (Lawful c) cls → All (Lawful c) (share b cls)
+pub share_lawful : (c : Counts) (cls : List (List Literal)) (b : ℕ) → AllByRecursion (Lawful c) cls → AllByRecursion (Lawful c) (share b cls)
 share_lawful c cls b a = All-take (Lawful c) 12 (drop (12 * b) cls) (All-drop (Lawful c) (12 * b) cls a)
 
 pub share_count : (cls : List (List Literal)) (b : ℕ) → length (share b cls) ≡ due (length cls) b
@@ -115,7 +115,7 @@ pub share_at : (cls : List (List Literal)) (b k : ℕ) → k < 12 → get_or (sh
 share_at cls b k h = get_or-take 12 (drop (12 * b) cls) k [] h ∙ get_or-drop (12 * b) cls k []
 
 -- a block has 512 bytes, and block b of a file is the one written there
-pub block_length : (c : Counts) (cls : List (List Literal)) → All (Lawful c) cls → (b : ℕ) → length (block_of c cls b) ≡ 512
+pub block_length : (c : Counts) (cls : List (List Literal)) → AllByRecursion (Lawful c) cls → (b : ℕ) → length (block_of c cls b) ≡ 512
 unfolding block_of
 block_length c cls a zero = checked_length (head_front c (length cls)) (head_length c (length cls))
 block_length c cls a (suc b) =
@@ -124,15 +124,15 @@ block_length c cls a (suc b) =
 abbrev blocks : ℕ → List ℕ
 blocks n = range_with_len 0 (1 + blocks_for n)
 
-sized : (c : Counts) (cls : List (List Literal)) → All (Lawful c) cls → All (λ b. length (block_of c cls b) ≡ 512) (blocks (length cls))
+sized : (c : Counts) (cls : List (List Literal)) → AllByRecursion (Lawful c) cls → AllByRecursion (λ b. length (block_of c cls b) ≡ 512) (blocks (length cls))
 sized c cls a = all_of (λ b. length (block_of c cls b) ≡ 512) (block_length c cls a) (blocks (length cls))
 
-pub file_length : (c : Counts) (cls : List (List Literal)) → All (Lawful c) cls → length (file_of c cls) ≡ 512 * (1 + blocks_for (length cls))
+pub file_length : (c : Counts) (cls : List (List Literal)) → AllByRecursion (Lawful c) cls → length (file_of c cls) ≡ 512 * (1 + blocks_for (length cls))
 unfolding file_of
 file_length c cls a =
     joined_length (block_of c cls) 512 (blocks (length cls)) (sized c cls a) ∙ ap (λ n. 512 * n) (length-range_with_len 0 (1 + blocks_for (length cls)))
 
-pub file_block : (c : Counts) (cls : List (List Literal)) → All (Lawful c) cls → (b : ℕ) → b < 1 + blocks_for (length cls) → block_at (file_of c cls) b ≡ block_of c cls b
+pub file_block : (c : Counts) (cls : List (List Literal)) → AllByRecursion (Lawful c) cls → (b : ℕ) → b < 1 + blocks_for (length cls) → block_at (file_of c cls) b ≡ block_of c cls b
 unfolding file_of
 file_block c cls a b h =
     let n = 1 + blocks_for (length cls) in

@@ -1,6 +1,6 @@
 -- When the bytes of a file are right, block by block.
 use Rattle.std.specs.Prelude.{◌≡◌, ℕ, zero, suc, ◌+◌, ◌-◌, ◌*◌, ◌/◌, ◌%◌, ◌<◌, ◌≤◌, min, List, length, take, drop, sum}
-use Rattle.std.specs.List.{AllByRecursion as All}
+use Rattle.std.specs.List.{AllByRecursion}
 use Rattle.syntax.specs.declared.types.Literal.{Literal}
 use Rattle.syntax.specs.declared.counts.Counts.{Counts}
 use Rattle.syntax.specs.Lawful.{Lawful}
@@ -11,7 +11,7 @@ use Rattle.blocks.specs.Reading.{part}
 pub record IsFile (bytes : List ℕ) (c : Counts) (cls : List (List Literal)) : Type 0 where
   pub written : bytes ≡ file_of c cls
   pub few : length cls ≤ 256
-  pub lawful : All (Lawful c) cls
+  pub lawful : AllByRecursion (Lawful c) cls
 
 -- the length: one block or more, and nothing over
 abbrev pub LengthRight : List ℕ → Type 0
@@ -45,7 +45,7 @@ due n b = min 12 (n - 12 * b)
 pub record Clauses (c : Counts) (m : ℕ) (block : List ℕ) : Type 0 where
   pub clauses : List (List Literal)
   pub count : length clauses ≡ m
-  pub lawful : All (Lawful c) clauses
+  pub lawful : AllByRecursion (Lawful c) clauses
   pub says : take 510 block ≡ clauses_front clauses
 
 -- the layout of block b is right: block 0 is a head, each other block has the clauses that are due there by the head

@@ -1,13 +1,13 @@
 -- What the functions on parts of a file answer.
 use Rattle.std.specs.Prelude.{◌≡◌, ℕ, ◌≤◌, List, Some, None, Option}
-use Rattle.std.specs.List.{flat_map, AllByRecursion as All}
+use Rattle.std.specs.List.{flat_map, AllByRecursion}
 use Rattle.syntax.specs.declared.counts.Counts.{Counts}
 use Rattle.blocks.specs.Format.{padded, head_contents}
 use Rattle.blocks.specs.Layout.{FirstWrong, AllRight}
 
 -- the bytes are those of some list of such elements
 abbrev pub Made : {X : Type 0} → (X → List ℕ) → (X → Type 0) → List ℕ → Type 0
-Made {X} f P bytes = (xs : List X) × All P xs × (bytes ≡ flat_map f xs)
+Made {X} f P bytes = (xs : List X) × AllByRecursion P xs × (bytes ≡ flat_map f xs)
 
 -- the bytes are those of one such element
 abbrev pub MadeOne : {X : Type 0} → (X → List ℕ) → (X → Type 0) → List ℕ → Type 0

@@ -1,7 +1,7 @@
 -- What an answer of a book says of the clauses by their places, and back.
 use Rattle.std.proofs.Common.{◌≡◌, ℕ, zero, suc, ◌+◌, ◌<◌, ◌≤◌, List, [], ◌∷◌, map, length, get_or, take, Some, None, Option, sym, ap, ◌∙◌, subst, not-suc-le-zero, arith}
 use lib.ListN.{length-map}
-use Rattle.std.specs.List.{AllByRecursion as All, slice_get}
+use Rattle.std.specs.List.{AllByRecursion, slice_get}
 use Rattle.std.proofs.lemmas.Option.{slice_get-get_or, slice_get_past}
 use Rattle.std.proofs.lemmas.List.{get_or-map, take_all}
 use Rattle.std.proofs.ByRecursion.{All-get_or, All-more}
@@ -11,8 +11,8 @@ use Rattle.syntax.specs.Lawful.{Lawful, LawfulLiteral}
 use Rattle.books.specs.Lists.{size_at_index, literal_at}
 
 -- the end of any walk: what holds of each element before n holds of all
-pub walked : {X : Type 0} (P : X → Type 0) (xs : List X) (n : ℕ) → length xs ≤ n → All P (take n xs) → All P xs
-walked {X} P xs n h f = let Q : List X → Type 0 = λ ys. All P ys in subst Q (take_all n xs h) f
+pub walked : {X : Type 0} (P : X → Type 0) (xs : List X) (n : ℕ) → length xs ≤ n → AllByRecursion P (take n xs) → AllByRecursion P xs
+walked {X} P xs n h f = let Q : List X → Type 0 = λ ys. AllByRecursion P ys in subst Q (take_all n xs h) f
 
 -- what nth answers: the element at i, or nothing past the end
 abbrev pub At : {X : Type 0} → List X → ℕ → Option X → Type 0
@@ -65,33 +65,33 @@ literal_of_list cs i j l e =
     (within cs i j h.0, h.0, h.1)
 
 -- every clause of a book is lawful, and has 1 to 8 literals
-pub clause_lawful : (c : Counts) (cs : List (List Literal)) (i : ℕ) → All (Lawful c) cs → i < length cs → Lawful c (get_or cs i [])
+pub clause_lawful : (c : Counts) (cs : List (List Literal)) (i : ℕ) → AllByRecursion (Lawful c) cs → i < length cs → Lawful c (get_or cs i [])
 clause_lawful c cs i f h = All-get_or (Lawful c) cs i [] h f
 
-pub size_within : (c : Counts) (cs : List (List Literal)) (i n : ℕ) → All (Lawful c) cs → Some n ≡ size_at_index cs i → (1 ≤ n) × (n ≤ 8)
+pub size_within : (c : Counts) (cs : List (List Literal)) (i n : ℕ) → AllByRecursion (Lawful c) cs → Some n ≡ size_at_index cs i → (1 ≤ n) × (n ≤ 8)
 size_within c cs i n f e =
     let h = size_is cs i (Some n) e in
     let law = clause_lawful c cs i f h.0 in
     (omega arith, omega arith)
 
-pub literal_within : (c : Counts) (cs : List (List Literal)) (i j : ℕ) (l : Literal) → All (Lawful c) cs → Some l ≡ literal_at cs i j → j < 8
+pub literal_within : (c : Counts) (cs : List (List Literal)) (i j : ℕ) (l : Literal) → AllByRecursion (Lawful c) cs → Some l ≡ literal_at cs i j → j < 8
 literal_within c cs i j l f e =
     let h = literal_of_list cs i j l e in
     let law = clause_lawful c cs i f h.0 in
     omega arith
 
 -- what holds of each literal of clause i holds of the one that was answered; so it is lawful
-pub literal_has : (P : Literal → Type 0) (cs : List (List Literal)) (i j : ℕ) (l : Literal) → Some l ≡ literal_at cs i j → All P (get_or cs i []) → P l
+pub literal_has : (P : Literal → Type 0) (cs : List (List Literal)) (i j : ℕ) (l : Literal) → Some l ≡ literal_at cs i j → AllByRecursion P (get_or cs i []) → P l
 literal_has P cs i j l e f = let h = literal_of_list cs i j l e in subst P (sym h.2) (All-get_or P (get_or cs i []) j l h.1 f)
 
-pub literal_lawful : (c : Counts) (cs : List (List Literal)) (i j : ℕ) (l : Literal) → All (Lawful c) cs → Some l ≡ literal_at cs i j → LawfulLiteral c l
+pub literal_lawful : (c : Counts) (cs : List (List Literal)) (i j : ℕ) (l : Literal) → AllByRecursion (Lawful c) cs → Some l ≡ literal_at cs i j → LawfulLiteral c l
 literal_lawful c cs i j l f e =
     literal_has (LawfulLiteral c) cs i j l e (clause_lawful c cs i f (literal_of_list cs i j l e).0).each
 
 -- a walk over the literals of clause i: one more, and the end
-pub literals_more : (P : Literal → Type 0) (cs : List (List Literal)) (i j : ℕ) (l : Literal) → Some l ≡ literal_at cs i j → All P (take j (get_or cs i [])) → P l → All P (take (j + 1) (get_or cs i []))
+pub literals_more : (P : Literal → Type 0) (cs : List (List Literal)) (i j : ℕ) (l : Literal) → Some l ≡ literal_at cs i j → AllByRecursion P (take j (get_or cs i [])) → P l → AllByRecursion P (take (j + 1) (get_or cs i []))
 literals_more P cs i j l e f p =
     let h = literal_of_list cs i j l e in All-more P (get_or cs i []) j l h.1 f (subst P h.2 p)
 
-pub literals_all : (P : Literal → Type 0) (cs : List (List Literal)) (i j : ℕ) → None ≡ literal_at cs i j → All P (take j (get_or cs i [])) → All P (get_or cs i [])
+pub literals_all : (P : Literal → Type 0) (cs : List (List Literal)) (i j : ℕ) → None ≡ literal_at cs i j → AllByRecursion P (take j (get_or cs i [])) → AllByRecursion P (get_or cs i [])
 literals_all P cs i j e f = walked P (get_or cs i []) j (literal_is cs i j None e) f

@@ -1,7 +1,7 @@
 -- The working book's places against the list that it stands for.
 use Rattle.std.proofs.Common.{◌≡◌, ℕ, ◌+◌, ◌<◌, ◌≤◌, true, List, [], ◌∷◌, ◌++◌, map, length, get_or, take, set, sym, ap, ◌∙◌, subst, arith, length-take}
 use lib.ListN.{length-map}
-use Rattle.std.specs.List.{AllByRecursion as All}
+use Rattle.std.specs.List.{AllByRecursion}
 use Rattle.std.proofs.lemmas.List.{get_or-take, get_or_default, get_or-map, get_or_past, take_more_set, take-take, map_push, take-map}
 use Rattle.std.proofs.ByRecursion.{All-push, All-take}
 use Rattle.syntax.specs.declared.types.Literal.{Literal}
@@ -17,15 +17,15 @@ pub len_is : (b : WorkingBook) → length (standing_of b) ≡ b.len
 len_is b = simp (length-map, length-take) (omega arith)
 
 -- one clause more, and fewer
-pub lawful_more : (c : Counts) (xs : List Clause) (n : ℕ) (x : Clause) → n < length xs → lawful_stored c (take n xs) ≡ true → All (LawfulLiteral c) (literals_of x) → lawful_stored c (take (n + 1) (set xs n x)) ≡ true
+pub lawful_more : (c : Counts) (xs : List Clause) (n : ℕ) (x : Clause) → n < length xs → lawful_stored c (take n xs) ≡ true → AllByRecursion (LawfulLiteral c) (literals_of x) → lawful_stored c (take (n + 1) (set xs n x)) ≡ true
 lawful_more c xs n x h f l =
     ap (lawful_stored c) (take_more_set xs n x h) ∙
-    (stored_decides c (take n xs ++ x ∷ [])).1 (All-push (λ y. All (LawfulLiteral c) (literals_of y)) (take n xs) x ((stored_decides c (take n xs)).0 f) l)
+    (stored_decides c (take n xs ++ x ∷ [])).1 (All-push (λ y. AllByRecursion (LawfulLiteral c) (literals_of y)) (take n xs) x ((stored_decides c (take n xs)).0 f) l)
 
 pub lawful_fewer : (c : Counts) (xs : List Clause) (k n : ℕ) → k ≤ n → lawful_stored c (take n xs) ≡ true → lawful_stored c (take k xs) ≡ true
 lawful_fewer c xs k n h f =
     ap (lawful_stored c) (sym (take-take k n xs h)) ∙
-    (stored_decides c (take k (take n xs))).1 (All-take (λ y. All (LawfulLiteral c) (literals_of y)) k (take n xs) ((stored_decides c (take n xs)).0 f))
+    (stored_decides c (take k (take n xs))).1 (All-take (λ y. AllByRecursion (LawfulLiteral c) (literals_of y)) k (take n xs) ((stored_decides c (take n xs)).0 f))
 
 pub clauses_more : (xs : List Clause) (n : ℕ) (x : Clause) → n < length xs → map literals_of (take (n + 1) (set xs n x)) ≡ map literals_of (take n xs) ++ literals_of x ∷ []
 clauses_more xs n x h = ap (map literals_of) (take_more_set xs n x h) ∙ map_push literals_of (take n xs) x

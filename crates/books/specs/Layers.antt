@@ -1,7 +1,7 @@
 -- A layer on a book: the clauses below, and then those of its own that count.
 use Rattle.std.specs.Prelude.{◌-◌, ◌≤◌, List, ◌++◌, length, take}
 use Rattle.std.proofs.Common.{arith, length-take, length-append}
-use Rattle.std.specs.List.{AllByRecursion as All}
+use Rattle.std.specs.List.{AllByRecursion}
 use Rattle.std.proofs.ByRecursion.{All-append, All-take}
 use Rattle.syntax.specs.declared.types.Literal.{Literal}
 use Rattle.syntax.specs.declared.counts.Counts.{Counts}
@@ -12,7 +12,7 @@ unfoldable pub laid : List (List Literal) → List (List Literal) → List (List
 laid cs own = cs ++ take (65535 - length cs) own
 
 -- they are lawful where both are
-pub laid_lawful : (c : Counts) (cs own : List (List Literal)) → All (Lawful c) cs → All (Lawful c) own → All (Lawful c) (laid cs own)
+pub laid_lawful : (c : Counts) (cs own : List (List Literal)) → AllByRecursion (Lawful c) cs → AllByRecursion (Lawful c) own → AllByRecursion (Lawful c) (laid cs own)
 unfolding laid
 laid_lawful c cs own h g = All-append (Lawful c) cs (take (65535 - length cs) own) h (All-take (Lawful c) (65535 - length cs) own g)
 

@@ -1,6 +1,6 @@
 -- A clause in its place.
 use Rattle.std.specs.Prelude.{Bool, true, ◌&&◌, List, [], ◌∷◌, take, Decides, refl}
-use Rattle.std.specs.List.{AllByRecursion as All}
+use Rattle.std.specs.List.{AllByRecursion}
 use Rattle.std.proofs.ByRecursion.{Decides-by_and}
 use Rattle.syntax.specs.declared.types.Literal.{Literal}
 use Rattle.syntax.specs.declared.counts.Counts.{Counts}
@@ -19,8 +19,8 @@ lawful_stored c [] = true
 lawful_stored c (x ∷ xs) = lawful_literals c (literals_of x) && lawful_stored c xs
 
 abbrev pub LawfulStored : Counts → List Clause → Type 0
-LawfulStored c xs = All (λ x. All (LawfulLiteral c) (literals_of x)) xs
+LawfulStored c xs = AllByRecursion (λ x. AllByRecursion (LawfulLiteral c) (literals_of x)) xs
 
 pub stored_decides : (c : Counts) (xs : List Clause) → Decides (lawful_stored c xs) (LawfulStored c xs)
 stored_decides c xs =
-    Decides-by_and (λ x. lawful_literals c (literals_of x)) (λ x. All (LawfulLiteral c) (literals_of x)) (lawful_stored c) (λ x. literals_decides c (literals_of x)) refl (λ _ _. refl) xs
+    Decides-by_and (λ x. lawful_literals c (literals_of x)) (λ x. AllByRecursion (LawfulLiteral c) (literals_of x)) (lawful_stored c) (λ x. literals_decides c (literals_of x)) refl (λ _ _. refl) xs

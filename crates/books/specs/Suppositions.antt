@@ -1,7 +1,7 @@
 -- The supposition: what it means, and what its call does.
 use Rattle.std.specs.Prelude.{◌≡◌, ◌<◌, ◌≤◌, true, ◌⊎◌, List, [], ◌∷◌, ◌++◌, map, length, take, Ok, Err, filter, Result}
 use Rattle.std.proofs.Common.{arith}
-use Rattle.std.specs.List.{AllByRecursion as All}
+use Rattle.std.specs.List.{AllByRecursion}
 use Rattle.std.proofs.ByRecursion.{All-map, All-weaker, kept_by_passes}
 use Rattle.syntax.specs.declared.types.Literal.{Literal}
 use Rattle.syntax.specs.declared.types.Refusal.{Refusal}
@@ -45,11 +45,11 @@ Supposed c cs ls l (Err e) cs' ls' =
 unit_lawful : (c : Counts) (l : Literal) → ground_literal c l ≡ true → Lawful c (unit l)
 unit_lawful c l h = record { some = omega arith; few = omega arith; each = (ground_lawful c l ((ground_decides c l).0 h), tt) }
 
-pub units_lawful : (c : Counts) (ls : List Literal) → All (Lawful c) (units c ls)
+pub units_lawful : (c : Counts) (ls : List Literal) → AllByRecursion (Lawful c) (units c ls)
 units_lawful c ls =
     All-map (Lawful c) unit (filter (ground_literal c) ls) (All-weaker (λ l. ground_literal c l ≡ true) (λ l. Lawful c (unit l)) (unit_lawful c) (filter (ground_literal c) ls) (kept_by_passes (ground_literal c) ls))
 
-pub with_lawful : {B : Type 0} (counts : B → Counts) (clauses : B → List (List Literal)) → ((b : B) → All (Lawful (counts b)) (clauses b)) → (s : Supposition B) → All (Lawful (counts_with counts s)) (clauses_with counts clauses s)
+pub with_lawful : {B : Type 0} (counts : B → Counts) (clauses : B → List (List Literal)) → ((b : B) → AllByRecursion (Lawful (counts b)) (clauses b)) → (s : Supposition B) → AllByRecursion (Lawful (counts_with counts s)) (clauses_with counts clauses s)
 with_lawful counts clauses h s =
     laid_lawful (counts s.below) (clauses s.below) (units (counts s.below) (own_of s)) (h s.below) (units_lawful (counts s.below) (own_of s))
 

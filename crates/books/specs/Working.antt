@@ -2,7 +2,7 @@
 use Rattle.std.specs.Prelude.{◌≡◌, ℕ, ◌<◌, ◌≤◌, ◌⊎◌, List, [], ◌∷◌, ◌++◌, map, length, take, Ok, Err, Result}
 use Rattle.std.proofs.Common.{arith, length-take}
 use Rattle.std.proofs.lemmas.List.{length-map}
-use Rattle.std.specs.List.{AllByRecursion as All}
+use Rattle.std.specs.List.{AllByRecursion}
 use Rattle.syntax.specs.declared.types.Literal.{Literal}
 use Rattle.syntax.specs.declared.types.Refusal.{Refusal}
 use Rattle.syntax.specs.declared.types.Refusal.TheVariants.{Limits, Unlawful, BookFull, StrikeAbove}
@@ -39,14 +39,14 @@ Struck cs k (Ok _) cs' = (k ≤ length cs) × (cs' ≡ take k cs)
 Struck cs k (Err e) cs' = (length cs < k) × (e ≡ StrikeAbove) × (cs' ≡ cs)
 
 -- every clause is lawful, and there are at most 256
-one_lawful : (c : Counts) (x : Clause) → All (LawfulLiteral c) (literals_of x) → Lawful c (literals_of x)
+one_lawful : (c : Counts) (x : Clause) → AllByRecursion (LawfulLiteral c) (literals_of x) → Lawful c (literals_of x)
 one_lawful c x h = record { some = simp length-take (omega arith); few = simp length-take (omega arith); each = h }
 
-all_lawful : (c : Counts) (xs : List Clause) → LawfulStored c xs → All (Lawful c) (map literals_of xs)
+all_lawful : (c : Counts) (xs : List Clause) → LawfulStored c xs → AllByRecursion (Lawful c) (map literals_of xs)
 all_lawful c [] h = tt
 all_lawful c (x ∷ xs) h = (one_lawful c x h.0, all_lawful c xs h.1)
 
-pub working_lawful : (b : WorkingBook) → All (Lawful b.counts) (clauses_of b)
+pub working_lawful : (b : WorkingBook) → AllByRecursion (Lawful b.counts) (clauses_of b)
 working_lawful b =
     all_lawful b.counts (take b.len b.clauses) ((stored_decides b.counts (take b.len b.clauses)).0 b.lawful)
 

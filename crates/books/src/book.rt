@@ -1,6 +1,6 @@
 // What every kind of book is.
 ghost use Rattle.std.specs.Prelude.{◌≡◌, ◌≤◌, List, length};
-ghost use Rattle.std.specs.List.{AllByRecursion as All};
+ghost use Rattle.std.specs.List.{AllByRecursion};
 ghost use Rattle.syntax.specs.declared.types.Literal.{Literal as Lit};
 ghost use Rattle.syntax.specs.declared.counts.Counts.{Counts as Cnt};
 ghost use Rattle.syntax.specs.Lawful.{Lawful};
@@ -16,7 +16,7 @@ pub trait Book {
 
     ghost clauses: { Self → List (List Lit) };
 
-    ghost lawful: { (b : Self) → All (Lawful (counts b)) (clauses b) };
+    ghost lawful: { (b : Self) → AllByRecursion (Lawful (counts b)) (clauses b) };
 
     ghost few: { (b : Self) → length (clauses b) ≤ 65535 };
 

@@ -1,6 +1,6 @@
 // Tests of the crate books, and code that is generic over books of any kind.
 ghost use Rattle.std.specs.Prelude.{◌≡◌, [], ◌∷◌, ◌++◌, IfOk, Decides};
-ghost use Rattle.std.specs.List.{AllByRecursion as All};
+ghost use Rattle.std.specs.List.{AllByRecursion};
 ghost use Rattle.syntax.specs.Lawful.{GroundLiteral};
 ghost use Rattle.books.specs.Lists.{literal_at};
 ghost use Rattle.books.specs.Suppositions.{unit};
@@ -34,7 +34,7 @@ fn in_pile<B: Book>(
 
 // Whether a book of any kind has no variable.
 fn is_ground<B: Book>(book: &B) -> bool
-    ensures { Decides result (All (All (GroundLiteral (B.counts book.now))) (B.clauses book.now)) }
+    ensures { Decides result (AllByRecursion (AllByRecursion (GroundLiteral (B.counts book.now))) (B.clauses book.now)) }
 {
     for i in 0..book.len() {
         let mut j = 0;

@@ -1,6 +1,6 @@
 -- A clause of a book, copied literal by literal.
 use Rattle.std.proofs.Common.{◌≡◌, ℕ, ◌+◌, ◌-◌, ◌<◌, ◌≤◌, List, [], ◌∷◌, ◌++◌, length, get_or, take, set, Some, None, Option, sym, ap, ◌∙◌, subst, arith}
-use Rattle.std.specs.List.{AllByRecursion as All}
+use Rattle.std.specs.List.{AllByRecursion}
 use Rattle.std.proofs.lemmas.List.{take_more, take_more_set, take_all}
 use Rattle.syntax.specs.declared.types.Literal.{Literal}
 use Rattle.syntax.specs.declared.counts.Counts.{Counts}
@@ -13,7 +13,7 @@ use Rattle.checking.specs.Values.{InEach, ClauseFinding}
 abbrev pub Answered : List Literal → ℕ → Literal → Type 0
 Answered cl j l = (j < length cl) × (length cl ≤ 8) × (l ≡ get_or cl j l)
 
-pub answered : (c : Counts) (cs : List (List Literal)) (i j : ℕ) (l : Literal) → All (Lawful c) cs → Some l ≡ literal_at cs i j → Answered (get_or cs i []) j l
+pub answered : (c : Counts) (cs : List (List Literal)) (i j : ℕ) (l : Literal) → AllByRecursion (Lawful c) cs → Some l ≡ literal_at cs i j → Answered (get_or cs i []) j l
 answered c cs i j l f e = let h = literal_of_list cs i j l e in (h.1, (clause_lawful c cs i f h.0).few, h.2)
 
 pub copied_more : (cl held : List Literal) (j : ℕ) (l : Literal) → Answered cl j l → j < length held → take j held ≡ take j cl → take (j + 1) (set held j l) ≡ take (j + 1) cl

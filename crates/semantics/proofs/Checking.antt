@@ -1,6 +1,6 @@
 -- A check has one answer; only the variables of a clause matter.
 use Rattle.std.proofs.Common.{◌≡◌, ℕ, zero, suc, ◌<◌, true, cond, ◌⊎◌, List, [], ◌∷◌, length, get_or, Ok, Err, sym, refl, ap, ◌∙◌, subst, ap₂, inl, inr, ⊎_elim, arith}
-use Rattle.std.specs.List.{AllByRecursion as All}
+use Rattle.std.specs.List.{AllByRecursion}
 use Rattle.std.proofs.ByRecursion.{all-has, All-get_or, All-weaker, has_get_or}
 use Rattle.std.proofs.lemmas.Bool.{cases_eq, cases_order, or_left, or_right, eq-eqb, cond-true, cond-false, cond_both}
 use Rattle.syntax.specs.declared.types.Term.{Term}
@@ -109,7 +109,7 @@ one_answer c clauses bytes lawful (Ok (failing i x y z w)) (Ok (failing j x' y' 
     ap Ok (one_failing c clauses bytes lawful p.0 q.0 p.1 q.1 i x y z w j x' y' z' w' p.2 q.2)
 
 -- a variable of a literal is one of the clause
-uses_in : (v : ℕ) (cl : Clause) → All (λ l. atom_use v l.atom ≡ true → uses v cl ≡ true) cl
+uses_in : (v : ℕ) (cl : Clause) → AllByRecursion (λ l. atom_use v l.atom ≡ true → uses v cl ≡ true) cl
 uses_in v [] = tt
 uses_in v (l ∷ ls) = (
   or_left (atom_use v l.atom) (uses v ls),

@@ -1,7 +1,7 @@
 -- Searches that end: below a number, and in a list.
 use Rattle.std.proofs.Common.{◌≡◌, ℕ, zero, suc, ◌<◌, Bool, true, ◌⊎◌, List, [], ◌∷◌, sym, refl, ap, ◌∙◌, inl, inr, ⊎_elim, arith, below_more}
 use mathlib.Core.Bool.{false≢true}
-use Rattle.std.specs.List.{AllByRecursion as All}
+use Rattle.std.specs.List.{AllByRecursion}
 use Rattle.std.proofs.ByRecursion.{All-weaker, all_has_itself, has_append_right}
 use Rattle.std.proofs.lemmas.Bool.{cases_eq, or_cases, or_left, or_right}
 use Rattle.semantics.specs.Meaning.{◌∈◌}
@@ -20,7 +20,7 @@ find_below P Q (suc n) f =
     (f n (omega arith))
 
 -- some of the list has P, or each has Q
-pub find_in : {X : Type 0} (P Q : X → Type 0) (xs : List X) → All (λ x. P x ⊎ Q x) xs → ((x : X) × (x ∈ xs) × P x) ⊎ All Q xs
+pub find_in : {X : Type 0} (P Q : X → Type 0) (xs : List X) → AllByRecursion (λ x. P x ⊎ Q x) xs → ((x : X) × (x ∈ xs) × P x) ⊎ AllByRecursion Q xs
 find_in P Q [] f = inr tt
 find_in P Q (x ∷ xs) f =
     ⊎_elim
@@ -31,7 +31,7 @@ find_in P Q (x ∷ xs) f =
     (find_in P Q xs f.1))
     f.0
 
-pub all_from : {X : Type 0} (P : X → Type 0) (xs : List X) → ((x : X) → x ∈ xs → P x) → All P xs
+pub all_from : {X : Type 0} (P : X → Type 0) (xs : List X) → ((x : X) → x ∈ xs → P x) → AllByRecursion P xs
 all_from P xs f = All-weaker (λ x. x ∈ xs) P f xs (all_has_itself xs)
 
 pub any_in : (n : ℕ) (f : ℕ → Bool) (k : ℕ) → k < n → f k ≡ true → any_below n f ≡ true

@@ -1,7 +1,7 @@
 -- What agrees with a branch meets no clash, and each step of a search keeps the agreement.
 use Rattle.std.proofs.Common.{◌≡◌, ℕ, ◌<◌, Bool, true, false, eqb, ◌⊎◌, sym, refl, ap, ◌∙◌, ap₂, inl, inr, ⊎_elim, eqb-true}
 use borrow.Author.Tests.{eqb-false}
-use Rattle.std.specs.List.{AllByRecursion as All}
+use Rattle.std.specs.List.{AllByRecursion}
 use Rattle.std.proofs.ByRecursion.{all-has}
 use Rattle.std.proofs.lemmas.Bool.{both_ways}
 use Rattle.syntax.specs.declared.types.Ground.{Ground}
@@ -74,14 +74,14 @@ linked_more c marks more kept a b (on r s) = on (linked_more c marks more kept _
 -- an instance of which some literal holds: not every literal is denied
 pub conflict_at :
     (c : Counts) (marks : Branch) (I : Interpretation) (cl : Clause) (σ : Assignment) →
-    Agrees c I marks → Lawful c cl → Assigns c σ → SomeHolds I σ cl → All (Denied c marks σ) cl → ⊥
+    Agrees c I marks → Lawful c cl → Assigns c σ → SomeHolds I σ cl → AllByRecursion (Denied c marks σ) cl → ⊥
 conflict_at c marks I cl σ agrees lawful assigns some denied =
     not_both _ some.0.sign some.2 (agrees _ (in_clause c σ cl some.0 assigns lawful some.1) _ (all-has _ cl some.0 denied some.1))
 
 -- where each but one is, that one holds
 pub forced_at :
     (c : Counts) (marks : Branch) (I : Interpretation) (cl : Clause) (σ : Assignment) (g : Ground) (s : Bool) →
-    Agrees c I marks → Lawful c cl → Assigns c σ → LawfulGround c g → SomeHolds I σ cl → All (DeniedOr c marks σ g s) cl → value I g ≡ s
+    Agrees c I marks → Lawful c cl → Assigns c σ → LawfulGround c g → SomeHolds I σ cl → AllByRecursion (DeniedOr c marks σ g s) cl → value I g ≡ s
 forced_at c marks I cl σ g s agrees lawful assigns l some but =
     let at = in_clause c σ cl some.0 assigns lawful some.1 in
     ⊎_elim

@@ -1,6 +1,6 @@
 -- Judgements, and judging by supposition.
 use Rattle.std.proofs.Common.{◌≡◌, Bool, not, ◌⊎◌, List, [], ◌∷◌, ◌++◌, sym, ap, ◌∙◌, inl, inr, ⊎_elim, arith}
-use Rattle.std.specs.List.{AllByRecursion as All}
+use Rattle.std.specs.List.{AllByRecursion}
 use Rattle.std.proofs.ByRecursion.{all-has, All-append, has_append_left, has_append_right, has_push}
 use Rattle.syntax.specs.declared.types.Ground.{Ground}
 use Rattle.syntax.specs.declared.types.Literal.{Literal}
@@ -26,7 +26,7 @@ pub unit_in : (c : Counts) (I : Interpretation) (g : Ground) (s : Bool) → valu
 unit_in c I g s e σ assigns = (record { sign = s; atom = atom_of g }, has_push [] _, ap (value I) (ground_of_atom σ g) ∙ e)
 
 -- a model of two lists of clauses together
-pub model_both : (c : Counts) (I : Interpretation) (one more : List Clause) → Model c one I → All (Satisfies c I) more → Model c (one ++ more) I
+pub model_both : (c : Counts) (I : Interpretation) (one more : List Clause) → Model c one I → AllByRecursion (Satisfies c I) more → Model c (one ++ more) I
 model_both c I one more model sats =
     record {
       over = model.over;
@@ -68,11 +68,11 @@ abbrev Fails : Interpretation → Assignment → Literal → Type 0
 Fails I σ l = value I (ground_of σ l.atom) ≡ not l.sign
 
 abbrev Broken : Counts → Interpretation → Clause → Type 0
-Broken c I cl = (σ : Assignment) × Assigns c σ × All (Fails I σ) cl
+Broken c I cl = (σ : Assignment) × Assigns c σ × AllByRecursion (Fails I σ) cl
 
 module _ (c : Counts) (I : Interpretation) (cl : Clause) where
   -- at one assignment every literal fails, or some literal holds
-  decide_at : (σ : Assignment) → All (Fails I σ) cl ⊎ SomeHolds I σ cl
+  decide_at : (σ : Assignment) → AllByRecursion (Fails I σ) cl ⊎ SomeHolds I σ cl
   decide_at σ =
       ⊎_elim inr inl (find_in (Holds I σ) (Fails I σ) cl (all_from _ cl (λ l i. cases_sign (value I (ground_of σ l.atom)) l.sign)))
 
@@ -89,11 +89,11 @@ module _ (c : Counts) (I : Interpretation) (cl : Clause) where
       (some.0, some.1, sym (ap (value I) (ground_same c _ σ some.0.atom (four_at σ) at)) ∙ some.2)))
       (find_below _ _ n (λ x hx. find_below _ _ n (λ y hy. find_below _ _ n (λ z hz. find_below _ _ n (λ w hw. decide_at (four x y z w))))))
 
-denials_in : (c : Counts) (I : Interpretation) (σ : Assignment) (cl : Clause) → All (Fails I σ) cl → All (Satisfies c I) (denials σ cl)
+denials_in : (c : Counts) (I : Interpretation) (σ : Assignment) (cl : Clause) → AllByRecursion (Fails I σ) cl → AllByRecursion (Satisfies c I) (denials σ cl)
 denials_in c I σ [] f = tt
 denials_in c I σ (l ∷ ls) f = (unit_in c I (ground_of σ l.atom) (not l.sign) f.0, denials_in c I σ ls f.1)
 
-denials_out : (c : Counts) (I : Interpretation) (σ : Assignment) (cl : Clause) → All (Satisfies c I) (denials σ cl) → All (Fails I σ) cl
+denials_out : (c : Counts) (I : Interpretation) (σ : Assignment) (cl : Clause) → AllByRecursion (Satisfies c I) (denials σ cl) → AllByRecursion (Fails I σ) cl
 denials_out c I σ [] f = tt
 denials_out c I σ (l ∷ ls) f = (unit_out c I (ground_of σ l.atom) (not l.sign) f.0, denials_out c I σ ls f.1)
 

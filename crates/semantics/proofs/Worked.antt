@@ -1,6 +1,6 @@
 -- The worked examples, from the definitions.
 use Rattle.std.proofs.Common.{◌≡◌, ℕ, ◌<◌, true, false, eqb, ◌⊎◌, List, [], ◌∷◌, refl, ap, ◌∙◌, inl, inr, ⊎_elim, arith}
-use Rattle.std.specs.List.{AllByRecursion as All}
+use Rattle.std.specs.List.{AllByRecursion}
 use Rattle.std.proofs.ByRecursion.{all-has, All-weaker, has_append_right}
 use Rattle.std.proofs.lemmas.Bool.{eqb-true, eq-eqb, both_ways}
 use Rattle.syntax.specs.declared.types.Ground.TheVariants.{Same, Prop, Rel}
@@ -17,7 +17,7 @@ abbrev pub OneOf : Interpretation → Assignment → Clause → Type 0
 OneOf I σ [] = ⊥
 OneOf I σ (l ∷ ls) = Holds I σ l ⊎ OneOf I σ ls
 
-each_of : (I : Interpretation) (σ : Assignment) (cl : Clause) → All (λ l. Holds I σ l → OneOf I σ cl) cl
+each_of : (I : Interpretation) (σ : Assignment) (cl : Clause) → AllByRecursion (λ l. Holds I σ l → OneOf I σ cl) cl
 each_of I σ [] = tt
 each_of I σ (l ∷ ls) = (inl, All-weaker (λ m. Holds I σ m → OneOf I σ ls) (λ m. Holds I σ m → OneOf I σ (l ∷ ls)) (λ m f h. inr (f h)) ls (each_of I σ ls))
 
@@ -30,10 +30,10 @@ some_of I σ (l ∷ ls) (inl h) = (l, (0, omega arith, λ d. refl), h)
 some_of I σ (l ∷ ls) (inr h) = let some = some_of I σ ls h in (some.0, has_append_right (l ∷ []) ls some.0 some.1, some.2)
 
 -- a model, clause by clause
-pub model_from : (c : Counts) (I : Interpretation) (clauses : List Clause) → Over c I → All (Satisfies c I) clauses → Model c clauses I
+pub model_from : (c : Counts) (I : Interpretation) (clauses : List Clause) → Over c I → AllByRecursion (Satisfies c I) clauses → Model c clauses I
 model_from c I clauses over sats = record { over = over; all = λ cl i. all-has (Satisfies c I) clauses cl sats i }
 
-pub clause_by_clause : (c : Counts) (I : Interpretation) (clauses : List Clause) → Model c clauses I → All (Satisfies c I) clauses
+pub clause_by_clause : (c : Counts) (I : Interpretation) (clauses : List Clause) → Model c clauses I → AllByRecursion (Satisfies c I) clauses
 clause_by_clause c I clauses model = all_from (Satisfies c I) clauses model.all
 
 -- all names go to one thing, of which everything holds

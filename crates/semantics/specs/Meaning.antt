@@ -1,6 +1,6 @@
 -- What clauses say of an interpretation.
 use Rattle.std.specs.Prelude.{◌≡◌, ℕ, zero, suc, ◌<◌, Bool, List, ◌==◌}
-use Rattle.std.specs.List.{ContainsAt as Has, AllByRecursion as All}
+use Rattle.std.specs.List.{ContainsAt as Has, AllByRecursion}
 use Rattle.syntax.specs.declared.types.Term.{Term}
 use Rattle.syntax.specs.declared.types.Term.TheVariants.{Name, Var}
 use Rattle.syntax.specs.declared.types.Atom.{Atom}
@@ -20,7 +20,7 @@ x ∈ xs = Has xs x
 
 -- a list of clauses, each lawful
 abbrev pub AllLawful : Counts → List Clause → Type 0
-AllLawful c clauses = All (Lawful c) clauses
+AllLawful c clauses = AllByRecursion (Lawful c) clauses
 
 -- the thing that each name goes to, which things have each property, and which ordered pairs stand in each relation
 pub record Interpretation : Type 0 where

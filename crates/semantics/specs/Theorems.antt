@@ -1,6 +1,6 @@
 -- What is proved of interpretations, branches and models.
 use Rattle.std.specs.Prelude.{◌≡◌, ℕ, ◌<◌, ◌≤◌, Bool, true, false, not, ◌⊎◌, ◌↔◌, List, [], ◌∷◌, ◌++◌, Result}
-use Rattle.std.specs.List.{AllByRecursion as All}
+use Rattle.std.specs.List.{AllByRecursion}
 use Rattle.syntax.specs.declared.types.Ground.{Ground}
 use Rattle.syntax.specs.declared.types.Ground.TheVariants.{Same}
 use Rattle.syntax.specs.declared.types.Mark.TheVariants.{Open, Yes}
@@ -78,13 +78,13 @@ abbrev pub Forced : Type 0
 Forced =
     (c : Counts) (marks : Branch) (I : Interpretation) (clauses : List Clause) (cl : Clause) (σ : Assignment) (g : Ground) (s : Bool) →
     Model c clauses I → Agrees c I marks → Lawful c cl → cl ∈ clauses → Assigns c σ → LawfulGround c g →
-    All (DeniedOr c marks σ g s) cl → Agrees c I (tell c marks g s)
+    AllByRecursion (DeniedOr c marks σ g s) cl → Agrees c I (tell c marks g s)
 
 -- with all denied there is no such model
 abbrev pub DeniedAll : Type 0
 DeniedAll =
     (c : Counts) (marks : Branch) (I : Interpretation) (clauses : List Clause) (cl : Clause) (σ : Assignment) →
-    Model c clauses I → Agrees c I marks → Lawful c cl → cl ∈ clauses → Assigns c σ → All (Denied c marks σ) cl → ⊥
+    Model c clauses I → Agrees c I marks → Lawful c cl → cl ∈ clauses → Assigns c σ → AllByRecursion (Denied c marks σ) cl → ⊥
 
 -- what stands may be told of linked names
 abbrev pub ToldAlike : Type 0
@@ -103,10 +103,10 @@ pub record Refuting (c : Counts) (clauses : List Clause) : Type 0 where
   pub clash : (marks : Branch) → Clash c marks → Refuted c clauses marks
   pub conflict :
       (marks : Branch) (cl : Clause) (σ : Assignment) →
-      cl ∈ clauses → Assigns c σ → All (Denied c marks σ) cl → Refuted c clauses marks
+      cl ∈ clauses → Assigns c σ → AllByRecursion (Denied c marks σ) cl → Refuted c clauses marks
   pub forced :
       (marks : Branch) (cl : Clause) (σ : Assignment) (g : Ground) (s : Bool) →
-      cl ∈ clauses → Assigns c σ → LawfulGround c g → All (DeniedOr c marks σ g s) cl →
+      cl ∈ clauses → Assigns c σ → LawfulGround c g → AllByRecursion (DeniedOr c marks σ g s) cl →
       Refuted c clauses (tell c marks g s) → Refuted c clauses marks
   pub alike :
       (marks : Branch) (g h : Ground) (s : Bool) →

@@ -1,6 +1,6 @@
 -- Each test of Lawful tells of its fact.
 use Rattle.std.specs.Prelude.{Bool, List, Decides, refl}
-use Rattle.std.specs.List.{AllByRecursion as All}
+use Rattle.std.specs.List.{AllByRecursion}
 use Rattle.std.proofs.lemmas.Bool.Decides.{Decides-ltb, Decides-and}
 use Rattle.std.proofs.ByRecursion.{Decides-by_and}
 use Rattle.std.proofs.lemmas.Bool.{false≢true}
@@ -31,7 +31,7 @@ literal_decides c l = atom_decides c (lawful_term c) (LawfulTerm c) (term_decide
 pub ground_decides : (c : Counts) (l : Literal) → Decides (ground_literal c l) (GroundLiteral c l)
 ground_decides c l = atom_decides c (ground_term c) (GroundTerm c) (name_decides c) l.atom
 
-pub literals_decides : (c : Counts) (ls : List Literal) → Decides (lawful_literals c ls) (All (LawfulLiteral c) ls)
+pub literals_decides : (c : Counts) (ls : List Literal) → Decides (lawful_literals c ls) (AllByRecursion (LawfulLiteral c) ls)
 literals_decides c ls = Decides-by_and (lawful_literal c) (LawfulLiteral c) (lawful_literals c) (literal_decides c) refl (λ _ _. refl) ls
 
 -- a ground_of literal is lawful

@@ -1,6 +1,6 @@
 -- What is lawful at counts: each time as a fact, and as a test that computes.
 use Rattle.std.specs.Prelude.{◌<◌, ◌≤◌, Bool, true, false, ◌&&◌, List, [], ◌∷◌, length, nat_lt}
-use Rattle.std.specs.List.{AllByRecursion as All}
+use Rattle.std.specs.List.{AllByRecursion}
 use Rattle.syntax.specs.declared.types.Term.{Term}
 use Rattle.syntax.specs.declared.types.Term.TheVariants.{Name, Var}
 use Rattle.syntax.specs.declared.types.Atom.{Atom}
@@ -34,7 +34,7 @@ GroundLiteral c l = AtomBy c (GroundTerm c) l.atom
 pub record Lawful (c : Counts) (cl : List Literal) : Type 0 where
   pub some : 1 ≤ length cl
   pub few : length cl ≤ 8
-  pub each : All (LawfulLiteral c) cl
+  pub each : AllByRecursion (LawfulLiteral c) cl
 
 -- the same as tests
 abbrev pub lawful_term : Counts → Term → Bool

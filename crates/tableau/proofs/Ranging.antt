@@ -2,7 +2,7 @@
 use Rattle.std.proofs.Common.{◌≡◌, ℕ, ◌+◌, ◌*◌, ◌/◌, ◌%◌, ◌<◌, ◌≤◌, Bool, true, false, cond, ◌||◌, List, [], ◌∷◌, sym, refl, ap, ◌∙◌, subst, ap₂, arith}
 use lib.Arith.{digits_lt}
 use Rattle.std.proofs.lemmas.Nat.{mul-le, div-mul-add, mod-mul-add, div_below, mod_below}
-use Rattle.std.specs.List.{AllByRecursion as All}
+use Rattle.std.specs.List.{AllByRecursion}
 use Rattle.std.proofs.ByRecursion.{All-weaker}
 use Rattle.std.proofs.lemmas.Bool.{cond_both, or_left, or_right}
 use Rattle.syntax.specs.declared.counts.Counts.{Counts}
@@ -87,7 +87,7 @@ placed r x y z w hx hy hz hw =
     (K, digits_lt (digits_lt (digits_lt hx hy) hz) hw, cc)
 
 -- which variables a clause uses
-pub uses_in : (v : ℕ) (cl : Clause) → All (λ l. atom_use v l.atom ≡ true → uses v cl ≡ true) cl
+pub uses_in : (v : ℕ) (cl : Clause) → AllByRecursion (λ l. atom_use v l.atom ≡ true → uses v cl ≡ true) cl
 uses_in v [] = tt
 uses_in v (l ∷ ls) = (
   or_left (atom_use v l.atom) (uses v ls),
@@ -99,7 +99,7 @@ uses_in v (l ∷ ls) = (
       (uses_in v ls),
 )
 
-pub uses_none : (v : ℕ) (cl : Clause) → All (λ l. atom_use v l.atom ≡ false) cl → uses v cl ≡ false
+pub uses_none : (v : ℕ) (cl : Clause) → AllByRecursion (λ l. atom_use v l.atom ≡ false) cl → uses v cl ≡ false
 uses_none v [] h = refl
 uses_none v (l ∷ ls) h = ap₂ ◌||◌ h.0 (uses_none v ls h.1)
 

@@ -1,6 +1,6 @@
 -- Each kind of move keeps the invariant and lowers the weight.
 use Rattle.std.proofs.Common.{◌≡◌, ℕ, ◌+◌, ◌<◌, ◌≤◌, Bool, true, false, not, List, [], ◌∷◌, ◌++◌, length, get_or, take, drop, set, sym, refl, ap, ◌∙◌, subst, arith}
-use Rattle.std.specs.List.{ContainsAt as Has, AllByRecursion as All}
+use Rattle.std.specs.List.{ContainsAt as Has, AllByRecursion}
 use Rattle.std.proofs.lemmas.List.{length-set, length_push, get_or-set_same}
 use Rattle.syntax.specs.declared.types.Mark.{Mark}
 use Rattle.syntax.specs.declared.types.Mark.TheVariants.{Yes, No, Open}
@@ -22,7 +22,7 @@ use Rattle.tableau.proofs.Weights.{forced_falls, chosen_falls, back_falls}
 
 -- an instance that every model satisfies: every atom denied, or every one but l
 module _ {M : Models} (ms : List Mark) (c : List SignedAtom) (satisfied : (v : Valuation) → M v → SomeOf (Holds v) c) where
-  pub no_model : All (DeniedIn ms) c → NoModel M ms
+  pub no_model : AllByRecursion (DeniedIn ms) c → NoModel M ms
   no_model d v m all = broken_fails ms c v all d (satisfied v m)
 
   pub entails : (l : SignedAtom) → AllBut ms l c → Entails M ms l

@@ -1,6 +1,6 @@
 -- What a sound branch gives, and how it changes.
 use Rattle.std.proofs.Common.{◌≡◌, ℕ, zero, suc, ◌+◌, ◌<◌, ◌≤◌, Bool, true, false, not, ◌≢◌, ◌⊎◌, List, [], ◌∷◌, ◌++◌, length, get_or, take, drop, set, sym, refl, ap, ◌∙◌, subst, inl, inr, true≢false, le_of_suc-le-suc, arith}
-use Rattle.std.specs.List.{ContainsAt as Has, AllByRecursion as All}
+use Rattle.std.specs.List.{ContainsAt as Has, AllByRecursion}
 use Rattle.std.proofs.ByRecursion.{all-has}
 use Rattle.std.proofs.lemmas.List.{length-set, length_push, get_or-set_same, get_or-set_other, set-set, set-get_or, take_at, drop_at, take-append-le, drop-append-le, same_from_push}
 use Rattle.std.proofs.lemmas.Bool.{cases_lt, cases_eq}
@@ -95,7 +95,7 @@ says_not a false n e = true≢false (sym n ∙ e)
 denied_fails : (ms : List Mark) (l : SignedAtom) (v : Valuation) → Agrees ms v → DeniedIn ms l → Holds v l → ⊥
 denied_fails ms l v all d e = let Q : Mark → Type 0 = λ m. Says m (v l.atom) in says_not (v l.atom) l.sign (subst Q d (all l.atom)) e
 
-pub broken_fails : (ms : List Mark) (c : List SignedAtom) (v : Valuation) → Agrees ms v → All (DeniedIn ms) c → SomeOf (Holds v) c → ⊥
+pub broken_fails : (ms : List Mark) (c : List SignedAtom) (v : Valuation) → Agrees ms v → AllByRecursion (DeniedIn ms) c → SomeOf (Holds v) c → ⊥
 broken_fails ms c v all d (l, has, e) = denied_fails ms l v all (all-has (DeniedIn ms) c l d has) e
 
 -- the one that is not denied holds

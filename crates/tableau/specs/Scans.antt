@@ -1,6 +1,6 @@
 -- What a look at an instance finds on a branch.
 use Rattle.std.specs.Prelude.{◌≡◌, ℕ, ◌<◌, ◌≤◌, ◌⊎◌, List, [], length, slice_index_or}
-use Rattle.std.specs.List.{ContainsAt as Has, AllByRecursion as All}
+use Rattle.std.specs.List.{ContainsAt as Has, AllByRecursion}
 use Rattle.syntax.specs.declared.types.Mark.{Mark}
 use Rattle.syntax.specs.declared.counts.Counts.{Counts}
 use Rattle.syntax.specs.Numbers.{atoms}
@@ -24,12 +24,12 @@ Looked ms l Untold = OpenIn ms l
 
 -- each is denied, or is l
 abbrev pub AllBut : List Mark → SignedAtom → List SignedAtom → Type 0
-AllBut ms l c = All (λ m. DeniedIn ms m ⊎ (m ≡ l)) c
+AllBut ms l c = AllByRecursion (λ m. DeniedIn ms m ⊎ (m ≡ l)) c
 
 -- of an instance c, of which the front is looked at
 abbrev pub Evaluated : List Mark → List SignedAtom → List SignedAtom → Status → Type 0
 Evaluated ms c front Fulfilled = SomeOf (StandsIn ms) c
-Evaluated ms c front Broken = All (DeniedIn ms) front
+Evaluated ms c front Broken = AllByRecursion (DeniedIn ms) front
 Evaluated ms c front (Forced l) = OpenIn ms l × Has c l × AllBut ms l front
 Evaluated ms c front (Loose l) = OpenIn ms l × Has c l
 

@@ -1,5 +1,5 @@
 use Rattle.std.proofs.Common.{[], refl, subst, arith, rules}
-use Rattle.std.specs.List.{AllByRecursion as All}
+use Rattle.std.specs.List.{AllByRecursion}
 use Rattle.std.proofs.ByRecursion.{All-more, All-get_or}
 use Rattle.std.proofs.lemmas.Bool.{false≢true}
 use Rattle.std.proofs.lemmas.Bool.Decides.{not_from_Decides}
@@ -30,7 +30,7 @@ pub loop-i-preserved : goal.loop-i-preserved
 loop-i-preserved g c =
     let b = c.args.book.now in
     let Q = GroundLiteral (g.B.Book.counts b) in
-    All-more (All Q) (g.B.Book.clauses b) c.loop-i.i [] (omega arith) c.loop-i.invariant
+    All-more (AllByRecursion Q) (g.B.Book.clauses b) c.loop-i.i [] (omega arith) c.loop-i.invariant
     (literals_all Q (g.B.Book.clauses b) c.loop-i.i c.loop-l.j c.in_default.ensures c.loop-l.invariant)
 
 pub returns-then-not-is_ground_literal : goal.returns-then-not-is_ground_literal
@@ -40,10 +40,10 @@ returns-then-not-is_ground_literal g c =
     let P : Counts → Type 0 = λ q. GroundLiteral q c.in-Some.l → ⊥ in
     let n = subst P c.counts.ensures (not_from_Decides c.is_ground_literal.result c.is_ground_literal.ensures c.if-not-is_ground_literal.true) in (
       (λ e. absurd (false≢true e)),
-      (λ f. absurd (n (literal_has Q (g.B.Book.clauses b) c.loop-i.i c.loop-l.j c.in-Some.l c.in-Some.ensures (All-get_or (All Q) (g.B.Book.clauses b) c.loop-i.i [] (omega arith) f)))),
+      (λ f. absurd (n (literal_has Q (g.B.Book.clauses b) c.loop-i.i c.loop-l.j c.in-Some.l c.in-Some.ensures (All-get_or (AllByRecursion Q) (g.B.Book.clauses b) c.loop-i.i [] (omega arith) f)))),
     )
 
 pub returns : goal.returns
 returns g c =
     let b = c.args.book.now in
-    ((λ e. walked (All (GroundLiteral (g.B.Book.counts b))) (g.B.Book.clauses b) c.loop-i.i (omega arith) c.loop-i.invariant), (λ f. refl))
+    ((λ e. walked (AllByRecursion (GroundLiteral (g.B.Book.counts b))) (g.B.Book.clauses b) c.loop-i.i (omega arith) c.loop-i.invariant), (λ f. refl))

@@ -1,5 +1,5 @@
 use Rattle.std.proofs.Common.{◌≡◌, true, List, refl, subst, arith}
-use Rattle.std.specs.List.{AllByRecursion as All}
+use Rattle.std.specs.List.{AllByRecursion}
 use Rattle.std.proofs.ByRecursion.{All-get_or, all-has, All-more, has_get_or}
 use Rattle.std.proofs.lemmas.List.{take_all}
 use Rattle.std.proofs.lemmas.Bool.{false≢true}
@@ -31,6 +31,6 @@ loop-l-preserved c I b =
 pub returns : goal.returns
 returns c I b =
     let P : Literal → Type 0 = λ m. Holds I (assigned c.args.names) m → ⊥ in
-    let Q : List Literal → Type 0 = λ ls. All P ls in
+    let Q : List Literal → Type 0 = λ ls. AllByRecursion P ls in
     let none = subst Q (take_all c.loop-l.l-index c.args.literals.now (omega arith)) (c.loop-l.invariant I b) in
     (λ e. absurd (false≢true e), λ t. absurd (all-has P c.args.literals.now t.0 none t.1 t.2))

@@ -2,7 +2,7 @@ use Rattle.std.proofs.Common.{List, refl, subst, arith, rules}
 use Rattle.std.proofs.ByRecursion.{All-get_or, All-more}
 use Rattle.std.proofs.lemmas.List.{take_all}
 use Rattle.std.proofs.lemmas.Bool.{false≢true}
-use Rattle.std.specs.List.{AllByRecursion as All}
+use Rattle.std.specs.List.{AllByRecursion}
 use Rattle.syntax.specs.declared.types.Literal.{Literal}
 use Rattle.syntax.specs.Lawful.{LawfulLiteral}
 use Rattle.syntax.proofs.lawful.is_lawful_clause.Goals as goal
@@ -19,5 +19,5 @@ loop-l-preserved c =
 
 pub returns : goal.returns
 returns c =
-    let P : List Literal → Type 0 = λ ls. All (LawfulLiteral c.args.counts) ls in
+    let P : List Literal → Type 0 = λ ls. AllByRecursion (LawfulLiteral c.args.counts) ls in
     (λ _. record { some = search rules; few = omega arith; each = subst P (take_all c.loop-l.l-index c.args.literals.now (omega arith)) c.loop-l.invariant }, λ _. refl)

@@ -1,5 +1,5 @@
 use Rattle.std.proofs.Common.{◌<◌, List, [], ◌∷◌, ◌++◌, length, sym, refl, ap, ◌∙◌, subst, inr, arith, length-set, rules}
-use Rattle.std.specs.List.{AllByRecursion as All}
+use Rattle.std.specs.List.{AllByRecursion}
 use Rattle.syntax.specs.declared.types.Literal.{Literal}
 use Rattle.syntax.specs.Lawful.{LawfulLiteral}
 use Rattle.books.specs.Working.{standing_of}
@@ -18,7 +18,7 @@ invariant_of-self c =
     let b = c.args.self.now in
     let h : b.len < length b.clauses = search rules in
     let law = c.is_lawful_clause.ensures.0 c.if-not-is_lawful_clause.false in
-    let P : List Literal → Type 0 = λ ls. All (LawfulLiteral b.counts) ls in
+    let P : List Literal → Type 0 = λ ls. AllByRecursion (LawfulLiteral b.counts) ls in
     record {
       fits = omega arith;
       whole = length-set b.clauses b.len c.stored-made.result ∙ b.whole;
