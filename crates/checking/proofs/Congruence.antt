@@ -5,7 +5,7 @@ use Rattle.syntax.specs.Numbers.{atoms}
 use Rattle.semantics.specs.Meaning.{Interpretation}
 use Rattle.semantics.specs.Bytes.{SameBy, BytesOf, Congruent}
 use Rattle.semantics.proofs.Reading.{which_bytes}
-use Rattle.checking.specs.Alike.{Bits, Reflexive, Alike, AllLike, Tested}
+use Rattle.checking.specs.Alike.{Alike, Tested}
 
 zero_or_one : (n : ℕ) → n < 2 → (n ≡ 0) ⊎ (n ≡ 1)
 zero_or_one zero h = inl (omega arith)

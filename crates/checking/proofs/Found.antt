@@ -1,5 +1,5 @@
 -- What the walk over a book's clauses comes to.
-use Rattle.std.proofs.Common.{◌≡◌, ℕ, ◌<◌, List, [], length, get_or, Ok, subst}
+use Rattle.std.proofs.Common.{ℕ, ◌<◌, List, [], length, get_or, Ok, subst}
 use Rattle.syntax.specs.declared.counts.Counts.{Counts}
 use Rattle.semantics.specs.Meaning.{Clause, Interpretation, Over, Satisfies, Model}
 use Rattle.semantics.specs.Bytes.{BytesOf}

@@ -1,11 +1,11 @@
 -- The search over the assignments of a clause's variables.
-use Rattle.std.proofs.Common.{◌≡◌, ℕ, zero, suc, ◌<◌, ◌≤◌, Bool, false, cond, ◌⊎◌, sym, refl, ap, ◌∙◌, subst, inl, inr, ⊎_elim, arith}
+use Rattle.std.proofs.Common.{◌≡◌, ℕ, zero, suc, ◌<◌, ◌≤◌, Bool, false, cond, sym, ap, ◌∙◌, subst, ⊎_elim, arith}
 use Rattle.std.proofs.ByRecursion.{all-has}
 use Rattle.std.proofs.lemmas.Bool.{cond_both, cond-true, cond-false, cases_Bool, cases_lt}
 use Rattle.syntax.specs.declared.counts.Counts.{Counts}
 use Rattle.syntax.specs.Lawful.{Lawful, LawfulLiteral}
 use Rattle.semantics.specs.Meaning.{Clause, Interpretation, value, Assignment, Assigns, four, SomeHolds, Satisfies}
-use Rattle.semantics.specs.Checks.{uses, Proper, Before, FirstFailing}
+use Rattle.semantics.specs.Checks.{uses, Proper, FirstFailing}
 use Rattle.semantics.proofs.Instances.{four_at, four_below, ground_same}
 use Rattle.semantics.proofs.Checking.{own_variables}
 use Rattle.checking.specs.declared.four.Four.{Four}

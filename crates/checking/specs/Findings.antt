@@ -1,5 +1,5 @@
 -- Every finding, case by case.
-use Rattle.std.specs.Prelude.{ℕ, List, Ok, Err, Result, slice_index}
+use Rattle.std.specs.Prelude.{List, Ok, Err, Result, slice_index}
 use Rattle.syntax.specs.declared.types.Refusal.{Refusal}
 use Rattle.syntax.specs.declared.counts.Counts.{Counts}
 use Rattle.semantics.specs.Meaning.{Clause, Interpretation, four, Model}

@@ -1,5 +1,5 @@
 -- A clash read off the leaders, and the clash around one literal.
-use Rattle.std.proofs.Common.{◌≡◌, ℕ, ◌<◌, ◌≤◌, Bool, true, false, not, ◌&&◌, eqb, ◌⊎◌, ◌↔◌, length, get_or, sym, refl, ap, ◌∙◌, subst, inl, inr, ⊎_elim, arith, length-set}
+use Rattle.std.proofs.Common.{◌≡◌, ℕ, ◌<◌, ◌≤◌, Bool, true, false, not, ◌&&◌, eqb, length, get_or, sym, refl, ap, ◌∙◌, subst, ⊎_elim, arith, length-set}
 use Rattle.std.proofs.lemmas.List.{get_or_past}
 use Rattle.std.proofs.lemmas.Bool.{cases_eq, cases_lt, eqb-true, eq-eqb, and_from, and_parts, false≢true}
 use Rattle.syntax.specs.declared.types.Ground.{Ground}
@@ -8,8 +8,8 @@ use Rattle.syntax.specs.declared.types.Mark.{Mark}
 use Rattle.syntax.specs.declared.types.Mark.TheVariants.{Open, Yes, No}
 use Rattle.syntax.specs.declared.counts.Counts.{Counts}
 use Rattle.syntax.specs.Numbers.{number_of, LawfulGround}
-use Rattle.semantics.specs.Meaning.{Interpretation, value}
-use Rattle.semantics.specs.Branch.{Branch, mark_at, signed, tell, Linked, self, told, back, on, Clash, same_no, prop_both, rel_both, ClassTable}
+use Rattle.semantics.specs.Meaning.{Interpretation}
+use Rattle.semantics.specs.Branch.{Branch, mark_at, signed, tell, Linked, self, told, back, Clash, same_no, prop_both, rel_both, ClassTable}
 use Rattle.semantics.proofs.Instances.{together}
 use Rattle.semantics.proofs.Marks.{mark_told, mark_kept, signed_same}
 use Rattle.semantics.proofs.Own.{same_leader, linked_by, table_from}

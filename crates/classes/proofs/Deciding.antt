@@ -1,5 +1,5 @@
 -- A search over the names or symbols that found nothing.
-use Rattle.std.proofs.Common.{◌≡◌, ℕ, ◌<◌, ◌≤◌, Bool, true, false, Decides, refl, arith}
+use Rattle.std.proofs.Common.{ℕ, ◌<◌, ◌≤◌, true, false, Decides, refl, arith}
 use Rattle.std.proofs.lemmas.Bool.{false≢true}
 
 pub none_below : (P : ℕ → Type 0) (n i : ℕ) → n ≤ i → ((k : ℕ) → k < i → P k → ⊥) → Decides false ((k : ℕ) × (k < n) × P k)

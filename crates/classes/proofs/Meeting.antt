@@ -1,5 +1,5 @@
 -- The clash around one literal, found by going over the names with the leaders of its own.
-use Rattle.std.proofs.Common.{◌≡◌, ℕ, ◌<◌, Bool, true, false, not, Decides, sym, refl, ◌∙◌, subst, arith}
+use Rattle.std.proofs.Common.{◌≡◌, ℕ, Bool, true, false, not, Decides, sym, refl, ◌∙◌, subst, arith}
 use Rattle.std.proofs.lemmas.Bool.{true≢false}
 use Rattle.std.proofs.lemmas.Bool.Decides.{Decides-like}
 use Rattle.syntax.specs.declared.types.Ground.{Ground}
@@ -10,7 +10,7 @@ use Rattle.syntax.specs.Numbers.{LawfulGround}
 use Rattle.semantics.specs.Branch.{Branch, signed}
 use Rattle.classes.specs.declared.symbol.Symbol.TheVariants.{Prop as Prop', Rel as Rel'}
 use Rattle.classes.specs.Symbols.{Meets}
-use Rattle.classes.specs.Clashes.{Fellow, ClashAt}
+use Rattle.classes.specs.Clashes.{ClashAt}
 
 -- only atoms of the book clash
 pub at_lawful : (c : Counts) (marks : Branch) (leader : ℕ → ℕ) (g : Ground) (s : Bool) → ClashAt c marks leader g s → LawfulGround c g

@@ -1,14 +1,13 @@
 -- The whole clash test, from its parts.
-use Rattle.std.proofs.Common.{◌≡◌, ℕ, ◌+◌, ◌*◌, ◌<◌, ◌≤◌, Bool, true, false, ◌⊎◌, List, get_or, Decides, sym, refl, ap, ◌∙◌, subst, inl, inr, ⊎_elim, arith}
+use Rattle.std.proofs.Common.{◌≡◌, ℕ, ◌+◌, ◌*◌, ◌<◌, Bool, true, false, ◌⊎◌, List, get_or, Decides, sym, refl, ap, ◌∙◌, subst, inl, inr, ⊎_elim, arith}
 use Rattle.std.proofs.lemmas.Bool.Decides.{Decides-like}
-use Rattle.syntax.specs.declared.types.Mark.{Mark}
 use Rattle.syntax.specs.declared.types.Mark.TheVariants.{Yes, No}
 use Rattle.syntax.specs.declared.counts.Counts.{Counts}
 use Rattle.semantics.specs.Branch.{Branch, Clash, ClassTable}
 use Rattle.classes.specs.declared.symbol.Symbol.{Symbol}
 use Rattle.classes.specs.declared.symbol.Symbol.TheVariants.{Prop as Prop', Rel as Rel'}
-use Rattle.classes.specs.Symbols.{BothAt, Gathered, MeetsAt, SameNo, slot_of, width}
-use Rattle.classes.specs.Clashes.{Fellow, ClashBy, same_no, prop_both, rel_both}
+use Rattle.classes.specs.Symbols.{BothAt, Gathered, SameNo, slot_of}
+use Rattle.classes.specs.Clashes.{ClashBy, same_no, prop_both, rel_both}
 use Rattle.classes.proofs.Clashing.{by_in, by_out}
 
 -- a place found in both is one where the symbol's atoms stand yes and no

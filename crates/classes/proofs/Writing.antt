@@ -1,5 +1,5 @@
 -- A model written into memory, atom by atom.
-use Rattle.std.proofs.Common.{◌≡◌, ℕ, ◌+◌, ◌*◌, ◌<◌, ◌≤◌, Bool, true, false, ◌&&◌, eqb, ◌⊎◌, List, length, get_or, take, drop, set, sym, refl, ap, ◌∙◌, subst, inl, inr, ⊎_elim, arith, length-set, get_or-set_other, get_or-set_same, below_more}
+use Rattle.std.proofs.Common.{◌≡◌, ℕ, ◌+◌, ◌*◌, ◌<◌, ◌≤◌, Bool, true, false, eqb, List, length, get_or, take, set, sym, refl, ap, ◌∙◌, subst, ⊎_elim, arith, length-set, get_or-set_other, get_or-set_same, below_more}
 use Rattle.std.proofs.lemmas.List.{drop-set-lt, get_or-take, length-take-le}
 use Rattle.std.proofs.lemmas.Bool.{cases_eq, eqb-true, eq-eqb, and_from, and_parts}
 use Rattle.syntax.specs.declared.types.Ground.{Ground}
@@ -10,8 +10,8 @@ use Rattle.syntax.specs.declared.counts.Counts.{Counts}
 use Rattle.syntax.specs.Numbers.{atoms, number_of, LawfulGround}
 use Rattle.syntax.proofs.Laws.{below_all}
 use Rattle.semantics.specs.Meaning.{Interpretation, value}
-use Rattle.semantics.specs.Bytes.{bit, byte_at, BytesOf}
-use Rattle.semantics.specs.Branch.{Branch, mark_at, is_yes, own, ClassTable}
+use Rattle.semantics.specs.Bytes.{bit, BytesOf}
+use Rattle.semantics.specs.Branch.{Branch, is_yes, own, ClassTable}
 use Rattle.semantics.proofs.Finite.{any_in, any_out}
 use Rattle.semantics.proofs.Instances.{together}
 use Rattle.semantics.proofs.Own.{leader_below}
@@ -19,8 +19,8 @@ use Rattle.classes.specs.declared.symbol.Symbol.{Symbol}
 use Rattle.classes.specs.declared.symbol.Symbol.TheVariants.{Prop as Prop', Rel as Rel'}
 use Rattle.classes.specs.Symbols.{Gathered, LawfulSymbol, atom_with, slot_of, width}
 use Rattle.classes.specs.Models.{Filled, Right}
-use Rattle.classes.specs.Writing.{Better, RowRight, RowWritten, RowsWritten, SameRight, SameRowWritten, SamesWritten, SymbolRight, Leads, Tells}
-use Rattle.classes.proofs.Gathering.{atom_lawful, width_names}
+use Rattle.classes.specs.Writing.{Better, RowRight, RowWritten, RowsWritten, SameRight, SameRowWritten, SamesWritten, SymbolRight, Tells}
+use Rattle.classes.proofs.Gathering.{atom_lawful}
 use Rattle.classes.proofs.Whole.{apart}
 
 pub better_none : (c : Counts) (I : Interpretation) (bytes : List ℕ) → Better c I bytes bytes

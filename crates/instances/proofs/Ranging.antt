@@ -1,17 +1,16 @@
 -- The assignments that ranges give: within them, and all of them.
-use Rattle.std.proofs.Common.{◌≡◌, ℕ, zero, suc, ◌+◌, ◌*◌, ◌/◌, ◌%◌, ◌<◌, ◌≤◌, Bool, true, false, cond, ◌||◌, ◌⊎◌, List, [], ◌∷◌, sym, refl, ap, ◌∙◌, subst, ap₂, inl, inr, ⊎_elim, arith}
+use Rattle.std.proofs.Common.{◌≡◌, ℕ, ◌+◌, ◌*◌, ◌/◌, ◌%◌, ◌<◌, ◌≤◌, true, false, ◌||◌, [], ◌∷◌, sym, refl, ap, ◌∙◌, subst, ap₂, arith}
 use lib.Arith.{digits_lt}
 use Rattle.std.proofs.lemmas.Nat.{mul-le, div-mul-add, mod-mul-add, div_below, mod_below}
 use Rattle.std.specs.List.{AllByRecursion}
 use Rattle.std.proofs.ByRecursion.{All-weaker}
 use Rattle.std.proofs.lemmas.Bool.{cond_both, or_left, or_right}
 use Rattle.syntax.specs.declared.counts.Counts.{Counts}
-use Rattle.semantics.specs.Meaning.{Clause, Assignment, Assigns, four}
+use Rattle.semantics.specs.Meaning.{Clause, Assignment}
 use Rattle.semantics.specs.Checks.{atom_use, uses, Proper}
 use Rattle.semantics.proofs.Instances.{four_below, four_at}
-use Rattle.instances.specs.declared.four.FourNames.{FourNames}
 use Rattle.instances.specs.declared.ranges.Ranges.{Ranges}
-use Rattle.instances.specs.Assignments.{names_of, range, RunsThrough, size, nth_assignment, EachAssigns, EachReached}
+use Rattle.instances.specs.Assignments.{names_of, range, size, nth_assignment, EachAssigns, EachReached}
 
 pub range_some : (c : Counts) (cl : Clause) (v : ℕ) → 1 ≤ range c cl v
 range_some c cl v = cond_both (uses v cl) c.names 1 (λ n. 1 ≤ n) (λ _. c.some) (λ _. omega arith)

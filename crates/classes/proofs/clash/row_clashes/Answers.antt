@@ -1,4 +1,4 @@
-use Rattle.std.proofs.Common.{◌≡◌, ◌<◌, sym, ◌∙◌, arith, below_more}
+use Rattle.std.proofs.Common.{◌<◌, sym, ◌∙◌, arith, below_more}
 use Rattle.syntax.specs.declared.types.Mark.TheVariants.{No}
 use Rattle.syntax.proofs.Marked.{marks_same, marks_apart}
 use Rattle.classes.proofs.Deciding.{found_yes, found_no}

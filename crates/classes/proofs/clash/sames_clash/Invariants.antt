@@ -1,4 +1,4 @@
-use Rattle.std.proofs.Common.{◌≡◌, ℕ, ◌<◌}
+use Rattle.std.proofs.Common.{ℕ, ◌<◌}
 use Rattle.classes.specs.Leaders.{leader_of}
 use Rattle.classes.specs.Symbols.{SameNo}
 use Rattle.classes.proofs.clash.sames_clash.Given as goal

@@ -1,7 +1,7 @@
-use Rattle.std.proofs.Common.{◌≡◌, ℕ, ◌+◌, ◌<◌, true, List, length, set, sym, ap, ◌∙◌, subst, arith}
+use Rattle.std.proofs.Common.{ℕ, ◌+◌, ◌<◌, true, length, set, sym, ap, ◌∙◌, subst, arith}
 use Rattle.syntax.proofs.Marked.{marks_same, marks_apart}
 use Rattle.classes.specs.Leaders.{leader_of}
-use Rattle.classes.specs.Symbols.{atom_with, slot_of, width}
+use Rattle.classes.specs.Symbols.{slot_of, width}
 use Rattle.classes.proofs.Gathering.{Row, atom_lawful, mark_with, row_pass, row_put}
 use Rattle.classes.proofs.gather.gather_row.Goals as goal
 use Rattle.classes.proofs.gather.gather_row.Goals.{then-eq, else-eq}

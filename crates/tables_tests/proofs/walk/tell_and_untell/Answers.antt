@@ -1,8 +1,8 @@
-use Rattle.std.proofs.Common.{◌≡◌, ◌-◌, ◌≤◌, ◌++◌, length, take, drop, sym, refl, ap, ◌∙◌, arith}
+use Rattle.std.proofs.Common.{◌≡◌, ◌-◌, ◌≤◌, ◌++◌, length, take, drop, sym, ap, ◌∙◌, arith}
 use Rattle.std.proofs.lemmas.List.{take-append-le, take_all, drop_at}
 use Rattle.tables.specs.Items.{items, slots_of}
 use Rattle.tables.specs.Walks.{opened}
-use Rattle.tables_tests.specs.Told.{count_told, told}
+use Rattle.tables_tests.specs.Told.{told}
 use Rattle.tables_tests.proofs.Counted.{round}
 use Rattle.tables_tests.proofs.walk.tell_and_untell.Goals as goal
 

@@ -1,4 +1,4 @@
-use Rattle.std.proofs.Common.{◌⊎◌, refl, inl, inr, ⊎_elim, arith}
+use Rattle.std.proofs.Common.{refl, inl, inr, ⊎_elim, arith}
 use Rattle.blocks.specs.Layout.{LengthRight, LayoutRight, FirstWrong, block_count}
 use Rattle.blocks.proofs.Files.{file_right, book_file, first_layout, exact}
 use Rattle.blocks.proofs.book.calls.read_blocks.Goals as goal

@@ -1,4 +1,4 @@
-use Rattle.std.proofs.Common.{sym, ◌∙◌, arith}
+use Rattle.std.proofs.Common.{sym, ◌∙◌}
 use Rattle.classes.proofs.Joining.{join_coarser, join_leading, join_one}
 use Rattle.classes.proofs.table.linking.join_pair.Goals as goal
 

@@ -1,4 +1,4 @@
-use Rattle.std.proofs.Common.{arith, below_none, below_more}
+use Rattle.std.proofs.Common.{arith, below_more}
 use Rattle.classes.proofs.Joining.{coarser_on, joined_on}
 use Rattle.classes.proofs.table.linking.join_row.Goals as goal
 
