@@ -1,8 +1,8 @@
 -- From two searches to the answer.
-use Rattle.std.proofs.Common.{◌≡◌, ℕ, ◌<◌, ◌≤◌, Bool, true, false, not, ◌⊎◌, List, [], ◌∷◌, ◌++◌, length, Some, None, Ok, Err, Decides, Option, Result, sym, refl, ap, ◌∙◌, subst, inl, inr, arith}
+use Rattle.std.proofs.Common.{◌≡◌, ℕ, ◌<◌, Bool, true, false, not, List, [], ◌∷◌, ◌++◌, length, None, Ok, Err, Decides, Option, Result, sym, refl, ap, ◌∙◌, subst, inl, inr, arith}
 use Rattle.std.proofs.ByRecursion.{has_push}
 use Rattle.std.proofs.lemmas.Bool.{false≢true}
-use Rattle.std.proofs.lemmas.Bool.Decides.{nat_tests, same_from_decides, not_from_Decides}
+use Rattle.std.proofs.lemmas.Bool.Decides.{nat_tests, not_from_Decides}
 use Rattle.syntax.specs.declared.types.Term.TheVariants.{Name, Var}
 use Rattle.syntax.specs.declared.types.Atom.{Atom}
 use Rattle.syntax.specs.declared.types.Atom.TheVariants.{Same, Prop, Rel}
@@ -10,10 +10,10 @@ use Rattle.syntax.specs.declared.types.Ground.{Ground}
 use Rattle.syntax.specs.declared.types.Literal.{Literal}
 use Rattle.syntax.specs.declared.types.Refusal.{Refusal}
 use Rattle.syntax.specs.declared.counts.Counts.{Counts}
-use Rattle.syntax.specs.Lawful.{AtomBy, GroundTerm, GroundLiteral, ground_literal}
+use Rattle.syntax.specs.Lawful.{AtomBy, GroundTerm, GroundLiteral}
 use Rattle.syntax.specs.Decided.{ground_decides}
-use Rattle.syntax.specs.Numbers.{atom_of, atoms}
-use Rattle.semantics.specs.Meaning.{Clause, Interpretation, Model, value}
+use Rattle.syntax.specs.Numbers.{atom_of}
+use Rattle.semantics.specs.Meaning.{Clause, value}
 use Rattle.semantics.specs.Judgements.{Consistent as Consistent', Contradictory, Always, Possible}
 use Rattle.semantics.specs.Suppositions.{unit}
 use Rattle.semantics.proofs.Suppose.{denial, unit_out, model_left}

@@ -1,14 +1,12 @@
 -- A question has one answer, given exactly when it is due.
-use Rattle.std.proofs.Common.{◌≡◌, ℕ, Bool, true, false, not, eqb, List, Some, None, Ok, Err, Option, Result, sym, refl, ap, ◌∙◌, subst, arith}
-use Rattle.std.proofs.lemmas.Bool.{false≢true}
-use Rattle.std.proofs.lemmas.Bool.Decides.{nat_tests, Decides-eqb, not_from_Decides}
+use Rattle.std.proofs.Common.{◌≡◌, ℕ, Bool, true, false, eqb, List, Some, None, Ok, Err, Option, Result, sym, refl, ap, ◌∙◌, subst, arith}
+use Rattle.std.proofs.lemmas.Bool.Decides.{nat_tests, Decides-eqb}
 use Rattle.syntax.specs.declared.types.Ground.{Ground}
 use Rattle.syntax.specs.declared.types.Ground.TheVariants.{Same}
 use Rattle.syntax.specs.declared.types.Literal.{Literal}
 use Rattle.syntax.specs.declared.types.Refusal.{Refusal}
 use Rattle.syntax.specs.declared.counts.Counts.{Counts}
 use Rattle.semantics.specs.Meaning.{Clause}
-use Rattle.semantics.specs.Judgements.{Consistent}
 use Rattle.semantics.proofs.Suppose.{one_truth}
 use Rattle.tableau.specs.Judged.{Lent}
 use Rattle.questions.specs.declared.answers.Certainty.{Certainty}
@@ -16,7 +14,7 @@ use Rattle.questions.specs.declared.answers.Certainty.TheVariants.{Contradictory
 use Rattle.questions.specs.declared.answers.Sameness.{Sameness}
 use Rattle.questions.specs.declared.answers.Sameness.TheVariants as sameness
 use Rattle.questions.specs.Asked.{Tells, TellsNames, AskedBy, ask_refusal, named_so, sameness_literal}
-use Rattle.questions.specs.Laws.{OneCertainty, OneSameness, Exactly, ExactlyNames, ExactCertainty, ExactSameness}
+use Rattle.questions.specs.Laws.{OneCertainty, OneSameness, ExactCertainty, ExactSameness}
 
 -- two answers that are due are one
 pub certain : (c : Counts) (cs : List Clause) (g : Ground) (s : Bool) (t u : Certainty) → Tells c cs g s t → Tells c cs g s u → t ≡ u

@@ -1,13 +1,11 @@
 -- What one atom told leaves of the classes and of clashes.
-use Rattle.std.proofs.Common.{◌≡◌, ℕ, ◌<◌, ◌≤◌, Bool, true, false, ◌↔◌, List, length, get_or, set, sym, refl, ap, ◌∙◌, subst, arith}
+use Rattle.std.proofs.Common.{◌≡◌, ℕ, ◌<◌, ◌↔◌, length, get_or, set, sym, ap, ◌∙◌, subst, arith}
 use Rattle.std.proofs.lemmas.List.{length-set, get_or-set_same, set-set, set-get_or}
 use Rattle.syntax.specs.declared.types.Ground.{Ground}
-use Rattle.syntax.specs.declared.types.Mark.{Mark}
 use Rattle.syntax.specs.declared.types.Mark.TheVariants.{Open}
 use Rattle.syntax.specs.declared.counts.Counts.{Counts}
 use Rattle.syntax.specs.Numbers.{number_of, LawfulGround}
 use Rattle.semantics.specs.Branch.{Branch, mark_at, tell, Clash, ClassTable, signed as signed_so}
-use Rattle.tables.specs.Marks.{signed}
 use Rattle.classes.specs.Leaders.{JoinsNone}
 use Rattle.classes.specs.Clashes.{ClashAt}
 use Rattle.classes.proofs.Clashing.{classes_told, clash_told}

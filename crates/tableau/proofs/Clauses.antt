@@ -1,15 +1,11 @@
 -- The instances of clauses: every model satisfies them, their atoms are of the book, and a branch that fulfils those of the clauses' own
 -- variables fulfils all.
-use Rattle.std.proofs.Common.{◌≡◌, ℕ, zero, suc, ◌<◌, ◌≤◌, Bool, true, false, cond, List, [], ◌∷◌, map, length, get_or, sym, refl, ap, ◌∙◌, subst, inl, inr, le_of_suc-le-suc, not-suc-le-zero, arith}
-use Rattle.std.specs.List.{ContainsAt as Has, AllByRecursion}
+use Rattle.std.proofs.Common.{◌≡◌, ℕ, zero, suc, ◌<◌, Bool, true, false, cond, List, [], ◌∷◌, map, length, get_or, sym, refl, ap, ◌∙◌, subst, le_of_suc-le-suc, not-suc-le-zero, arith}
+use Rattle.std.specs.List.{ContainsAt as Has}
 use Rattle.std.proofs.ByRecursion.{all-has, All-map, All-weaker, All-get_or, has_get_or}
 use Rattle.std.proofs.lemmas.List.{get_or-map, length-map}
-use Rattle.std.proofs.lemmas.Bool.{cond-true, cond_both}
+use Rattle.std.proofs.lemmas.Bool.{cond-true}
 use Rattle.syntax.specs.declared.types.Literal.{Literal}
-use Rattle.syntax.specs.declared.types.Atom.{Atom}
-use Rattle.syntax.specs.declared.types.Term.{Term}
-use Rattle.syntax.specs.declared.types.Mark.{Mark}
-use Rattle.syntax.specs.declared.types.Mark.TheVariants.{Open}
 use Rattle.syntax.specs.declared.counts.Counts.{Counts}
 use Rattle.syntax.specs.Lawful.{Lawful, LawfulLiteral}
 use Rattle.syntax.specs.Numbers.{atoms, number_of}
@@ -26,7 +22,7 @@ use Rattle.tableau.specs.declared.types.Survey.{Survey}
 use Rattle.tableau.specs.declared.types.Survey.TheVariants as survey
 use Rattle.tableau.specs.Scans.{Surveyed, SurveyedFrom}
 use Rattle.tableau.specs.Signs.{Valuation, Holds, SomeOf, StandsIn, signed_atom_of, instance, Modelled}
-use Rattle.tableau.specs.Instances.{names_of, Below, range, ranges, size, nth_assignment}
+use Rattle.tableau.specs.Instances.{names_of, Below, ranges, size, nth_assignment}
 use Rattle.tableau.proofs.Ranging.{uses_in, placed}
 
 has_map : {X Y : Type 0} (f : X → Y) (xs : List X) (x : X) → Has xs x → Has (map f xs) (f x)

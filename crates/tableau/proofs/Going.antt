@@ -1,15 +1,14 @@
 -- One part of a turn after the other.
-use Rattle.std.proofs.Common.{◌≡◌, ℕ, ◌<◌, ◌≤◌, Bool, true, false, List, length, get_or, set, sym, refl, ap, ◌∙◌, subst, arith}
-use Rattle.syntax.specs.declared.types.Ground.{Ground}
+use Rattle.std.proofs.Common.{◌≡◌, ℕ, Bool, true, false, List, get_or, set, sym, refl, ◌∙◌, subst, arith}
 use Rattle.syntax.specs.declared.types.Mark.{Mark}
 use Rattle.syntax.specs.declared.types.Mark.TheVariants.{Open, Yes, No}
 use Rattle.syntax.specs.declared.counts.Counts.{Counts}
-use Rattle.syntax.specs.Numbers.{number_of, LawfulGround}
-use Rattle.semantics.specs.Meaning.{Clause, Interpretation, value}
-use Rattle.semantics.specs.Branch.{Branch, mark_at, Clash, ClassTable, signed as signed_so, Agrees as AgreesSo}
+use Rattle.syntax.specs.Numbers.{number_of}
+use Rattle.semantics.specs.Meaning.{Clause}
+use Rattle.semantics.specs.Branch.{Branch, Clash, ClassTable, signed as signed_so}
 use Rattle.semantics.proofs.Steps.{no_clash}
 use Rattle.tableau.specs.declared.types.SignedAtom.{SignedAtom}
-use Rattle.tableau.specs.Signs.{Valuation, Says, Agrees, OpenIn, Modelled}
+use Rattle.tableau.specs.Signs.{Says, OpenIn, Modelled}
 use Rattle.tableau.specs.Branch.{Moment}
 use Rattle.tableau.specs.Scans.{NoModel}
 use Rattle.tableau.specs.Turns.{SoundState, Lighter, Steady, Gone, Passed, Turned, pass_of}

@@ -1,15 +1,13 @@
 -- From the search to the judgement.
-use Rattle.std.proofs.Common.{◌≡◌, ℕ, zero, suc, ◌<◌, ◌≤◌, Bool, true, false, eqb, List, [], ◌∷◌, length, get_or, take, drop, Some, None, Ok, Err, Option, Result, sym, refl, ap, ◌∙◌, subst, arith}
+use Rattle.std.proofs.Common.{◌≡◌, ℕ, zero, suc, ◌≤◌, Bool, true, false, eqb, List, [], ◌∷◌, length, get_or, take, drop, Some, None, Ok, Err, Option, Result, sym, refl, ap, ◌∙◌, subst, arith}
 use Rattle.std.proofs.lemmas.List.{ext_get_or}
 use Rattle.std.proofs.lemmas.Bool.Decides.{nat_tests}
 use Rattle.syntax.specs.declared.types.Mark.{Mark}
 use Rattle.syntax.specs.declared.types.Mark.TheVariants.{Open, No}
-use Rattle.syntax.specs.declared.types.Ground.{Ground}
 use Rattle.syntax.specs.declared.types.Ground.TheVariants.{Same, Prop, Rel}
 use Rattle.syntax.specs.declared.types.Refusal.{Refusal}
 use Rattle.syntax.specs.declared.counts.Counts.{Counts}
 use Rattle.syntax.specs.Numbers.{atoms, number_of}
-use Rattle.syntax.specs.Refusals.{first_of}
 use Rattle.semantics.specs.Meaning.{Clause}
 use Rattle.semantics.specs.Bytes.{BytesOf}
 use Rattle.semantics.specs.Branch.{Clash, same_no, prop_both, rel_both, ClassTable, own}
@@ -17,12 +15,11 @@ use Rattle.classes.specs.Models.{Written, ItsBytes}
 use Rattle.semantics.specs.Judgements.{Contradictory}
 use Rattle.semantics.proofs.Reading.{some_bytes, byte_value}
 use Rattle.tables.specs.Marks.{cleared}
-use Rattle.tableau.specs.declared.verdict.Verdict.{Verdict}
 use Rattle.tableau.specs.declared.verdict.Verdict.TheVariants.{Consistent, Contradictory as Contrary}
-use Rattle.tableau.specs.Signs.{Valuation, Clear, Modelled}
-use Rattle.tableau.specs.Branch.{Moment, Frame}
+use Rattle.tableau.specs.Signs.{Clear, Modelled}
+use Rattle.tableau.specs.Branch.{Moment}
 use Rattle.tableau.specs.Turns.{Modelless, Decided}
-use Rattle.tableau.specs.Judged.{Lent, size_refusal, judge_refusal, Kept, Left, Emptied, Judged, OneVerdict, Searched, BranchFound}
+use Rattle.tableau.specs.Judged.{size_refusal, judge_refusal, OneVerdict, Searched}
 use Rattle.tableau.proofs.States.{nothing_past}
 
 -- every model has a valuation, so without one there is no model

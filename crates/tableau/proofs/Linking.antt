@@ -1,15 +1,14 @@
 -- What an atom that stands says of those of linked names.
-use Rattle.std.proofs.Common.{◌≡◌, ℕ, ◌<◌, Bool, true, false, List, get_or, sym, refl, ap, ◌∙◌}
+use Rattle.std.proofs.Common.{◌≡◌, ℕ, Bool, List, get_or, sym, ap, ◌∙◌}
 use Rattle.syntax.specs.declared.types.Ground.{Ground}
 use Rattle.syntax.specs.declared.types.Ground.TheVariants.{Same, Prop, Rel}
 use Rattle.syntax.specs.declared.types.Mark.TheVariants.{Open}
 use Rattle.syntax.specs.declared.counts.Counts.{Counts}
 use Rattle.syntax.specs.Numbers.{number_of, LawfulGround}
-use Rattle.semantics.specs.Meaning.{Clause, value}
+use Rattle.semantics.specs.Meaning.{Clause}
 use Rattle.semantics.specs.Branch.{Branch, mark_at, Alike, same, prop, rel, ClassTable, signed, Agrees}
 use Rattle.semantics.proofs.Own.{linked_by}
 use Rattle.semantics.proofs.Steps.{alike_value}
-use Rattle.tableau.specs.declared.types.SignedAtom.{SignedAtom}
 use Rattle.tableau.specs.Signs.{Modelled}
 use Rattle.tableau.specs.Scans.{Entails}
 use Rattle.tableau.specs.Variants.{renamed, OneLed}

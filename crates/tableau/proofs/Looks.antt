@@ -1,6 +1,6 @@
 -- One more signed atom of an instance looked at.
-use Rattle.std.proofs.Common.{◌≡◌, ℕ, ◌+◌, ◌<◌, ◌⊎◌, List, [], length, get_or, take, Some, None, sym, refl, ap, ◌∙◌, subst, inl, inr, arith}
-use Rattle.std.specs.List.{ContainsAt as Has, AllByRecursion}
+use Rattle.std.proofs.Common.{◌≡◌, ℕ, ◌+◌, ◌<◌, ◌⊎◌, List, [], length, get_or, take, Some, None, sym, ap, ◌∙◌, subst, inl, inr, arith}
+use Rattle.std.specs.List.{ContainsAt as Has}
 use Rattle.std.proofs.ByRecursion.{All-more, All-weaker, has_get_or}
 use Rattle.std.proofs.lemmas.List.{get_or-map, length-map, take_all}
 use Rattle.books.specs.Lists.{literal_at}
@@ -12,8 +12,8 @@ use Rattle.semantics.specs.Meaning.{Clause, Assignment}
 use Rattle.tableau.specs.declared.types.SignedAtom.{SignedAtom}
 use Rattle.tableau.specs.declared.types.Status.{Status}
 use Rattle.tableau.specs.declared.types.Status.TheVariants.{Fulfilled, Broken, Forced, Loose}
-use Rattle.tableau.specs.Signs.{SomeOf, StandsIn, DeniedIn, OpenIn, signed_atom_of, instance}
-use Rattle.tableau.specs.Scans.{AllBut, Evaluated, with_open}
+use Rattle.tableau.specs.Signs.{DeniedIn, OpenIn, signed_atom_of, instance}
+use Rattle.tableau.specs.Scans.{Evaluated, with_open}
 
 -- the signed atom of the literal that was read
 pub at_step :

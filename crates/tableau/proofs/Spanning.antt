@@ -1,5 +1,5 @@
 -- The assignments of bound variables.
-use Rattle.std.proofs.Common.{◌≡◌, ℕ, ◌+◌, ◌<◌, ◌≤◌, ap, arith}
+use Rattle.std.proofs.Common.{◌≡◌, ℕ, ◌+◌, ◌<◌, ap, arith}
 use Rattle.syntax.specs.declared.counts.Counts.{Counts}
 use Rattle.tableau.specs.declared.types.FourNames.{FourNames}
 use Rattle.tableau.specs.declared.types.Ranges.{Ranges}

@@ -1,9 +1,9 @@
 -- Each kind of move keeps the invariant and lowers the weight.
-use Rattle.std.proofs.Common.{◌≡◌, ℕ, ◌+◌, ◌<◌, ◌≤◌, Bool, true, false, not, List, [], ◌∷◌, ◌++◌, length, get_or, take, drop, set, sym, refl, ap, ◌∙◌, subst, arith}
-use Rattle.std.specs.List.{ContainsAt as Has, AllByRecursion}
+use Rattle.std.proofs.Common.{◌≡◌, ℕ, ◌+◌, ◌<◌, ◌≤◌, not, List, [], ◌∷◌, ◌++◌, length, get_or, take, drop, set, sym, refl, ap, ◌∙◌, subst, arith}
+use Rattle.std.specs.List.{AllByRecursion}
 use Rattle.std.proofs.lemmas.List.{length-set, length_push, get_or-set_same}
 use Rattle.syntax.specs.declared.types.Mark.{Mark}
-use Rattle.syntax.specs.declared.types.Mark.TheVariants.{Yes, No, Open}
+use Rattle.syntax.specs.declared.types.Mark.TheVariants.{Open}
 use Rattle.tables.specs.declared.stack.Choice.{Choice}
 use Rattle.tables.specs.Marks.{signed, standing}
 use Rattle.tables.specs.declared.table.BranchTable.{Ghosts as TableGhosts}
@@ -13,7 +13,7 @@ use Rattle.tables.specs.Walks.{opened}
 use Rattle.tables.specs.Counting.{OpenFrom}
 use Rattle.tableau.specs.declared.types.SignedAtom.{SignedAtom}
 use Rattle.tableau.specs.Signs.{Valuation, Holds, SomeOf, Clear, OpenIn, StandsIn, DeniedIn, Agrees}
-use Rattle.tableau.specs.Branch.{Models, Clashes, Step, forced, chosen, told, trail_of, choice, choices_of, marks_of, Held, Forces, Refuted, Reason, Sound, Frame, Roomy, Moment, State, weight}
+use Rattle.tableau.specs.Branch.{Models, Clashes, Step, forced, chosen, told, trail_of, choice, choices_of, marks_of, Held, Forces, Refuted, Reason, Frame, Roomy, Moment, State, weight}
 use Rattle.tableau.specs.Scans.{AllBut, NoModel, Entails}
 use Rattle.tableau.specs.Turns.{Puttable, Put, Chosen, Modelless}
 use Rattle.tableau.specs.Views.{moment}

@@ -1,11 +1,11 @@
 -- What a sound branch gives, and how it changes.
-use Rattle.std.proofs.Common.{◌≡◌, ℕ, zero, suc, ◌+◌, ◌<◌, ◌≤◌, Bool, true, false, not, ◌≢◌, ◌⊎◌, List, [], ◌∷◌, ◌++◌, length, get_or, take, drop, set, sym, refl, ap, ◌∙◌, subst, inl, inr, true≢false, le_of_suc-le-suc, arith}
-use Rattle.std.specs.List.{ContainsAt as Has, AllByRecursion}
+use Rattle.std.proofs.Common.{◌≡◌, ℕ, ◌<◌, ◌≤◌, Bool, true, false, not, ◌≢◌, ◌⊎◌, List, [], ◌∷◌, ◌++◌, length, get_or, take, drop, set, sym, refl, ap, ◌∙◌, subst, inl, inr, true≢false, arith}
+use Rattle.std.specs.List.{AllByRecursion}
 use Rattle.std.proofs.ByRecursion.{all-has}
 use Rattle.std.proofs.lemmas.List.{length-set, length_push, get_or-set_same, get_or-set_other, set-set, set-get_or, take_at, drop_at, take-append-le, drop-append-le, same_from_push}
-use Rattle.std.proofs.lemmas.Bool.{cases_lt, cases_eq}
+use Rattle.std.proofs.lemmas.Bool.{cases_eq}
 use Rattle.syntax.specs.declared.types.Mark.{Mark}
-use Rattle.syntax.specs.declared.types.Mark.TheVariants.{Yes, No, Open}
+use Rattle.syntax.specs.declared.types.Mark.TheVariants.{Yes, Open}
 use Rattle.tables.specs.declared.stack.Choice.{Choice}
 use Rattle.tables.specs.Marks.{signed, stands, standing}
 use Rattle.tables.specs.Walks.{opened}
@@ -13,7 +13,7 @@ use Rattle.tables.specs.Counting.{OpenFrom}
 use Rattle.tables.proofs.Counts.{standing_set, stands_signed, at_most}
 use Rattle.tableau.specs.declared.types.SignedAtom.{SignedAtom}
 use Rattle.tableau.specs.Signs.{Valuation, Holds, SomeOf, Clear, OpenIn, DeniedIn, Says, Agrees}
-use Rattle.tableau.specs.Branch.{Models, Clashes, Step, forced, chosen, told, trail_of, choice, choices_of, marks_of, HeldBy, Held, Forces, Refuted, Reason, Sound, State}
+use Rattle.tableau.specs.Branch.{Models, Clashes, Step, forced, chosen, told, trail_of, choice, choices_of, marks_of, HeldBy, Held, Refuted, Reason, Sound}
 use Rattle.tableau.specs.Scans.{AllBut}
 use Rattle.tableau.specs.Turns.{Modelless}
 

@@ -1,5 +1,5 @@
 -- Each kind of turn lowers the weight.
-use Rattle.std.proofs.Common.{◌≡◌, ℕ, suc, ◌+◌, ◌-◌, ◌*◌, ◌^◌, ◌<◌, ◌≤◌, List, [], ◌∷◌, ◌++◌, length, sym, refl, ap, ◌∙◌, arith}
+use Rattle.std.proofs.Common.{◌≡◌, ℕ, ◌+◌, ◌-◌, ◌*◌, ◌^◌, ◌<◌, ◌≤◌, List, [], ◌∷◌, ◌++◌, length, ap, ◌∙◌, arith}
 use native.Mathlib.Nat.{pow-succ', one-le-pow}
 use Rattle.tables.specs.declared.stack.Choice.{Choice}
 use Rattle.std.proofs.lemmas.List.{length_push}

@@ -1,6 +1,6 @@
 -- Signed atoms: under a valuation of the atoms by their numbers, and on a branch.
-use Rattle.std.specs.Prelude.{◌≡◌, ℕ, ◌<◌, Bool, true, false, not, List, map, slice_index_or}
-use Rattle.std.specs.List.{ContainsAt as Has, AllByRecursion}
+use Rattle.std.specs.Prelude.{◌≡◌, ℕ, Bool, true, false, not, List, map, slice_index_or}
+use Rattle.std.specs.List.{ContainsAt as Has}
 use Rattle.syntax.specs.declared.types.Mark.{Mark}
 use Rattle.syntax.specs.declared.types.Mark.TheVariants.{Yes, No, Open}
 use Rattle.syntax.specs.declared.types.Ground.{Ground}

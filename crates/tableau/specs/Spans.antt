@@ -1,5 +1,5 @@
 -- The names that variables may stand for once some of them are bound.
-use Rattle.std.specs.Prelude.{◌≡◌, ℕ, ◌+◌, ◌<◌, ◌≤◌, Some, None, Option}
+use Rattle.std.specs.Prelude.{◌+◌, ◌≤◌, Some, None, Option}
 use Rattle.syntax.specs.declared.counts.Counts.{Counts}
 use Rattle.tableau.specs.declared.types.Span.{Span}
 use Rattle.tableau.specs.declared.types.Spans.{Spans}

@@ -6,7 +6,6 @@ use Rattle.syntax.specs.declared.counts.Counts.{Counts}
 use Rattle.syntax.specs.Numbers.{atoms}
 use Rattle.semantics.specs.Meaning.{Clause}
 use Rattle.semantics.specs.Branch.{Clash, Fulfilled, ClassTable}
-use Rattle.tables.specs.declared.stack.Choice.{Choice}
 use Rattle.tables.specs.Marks.{signed, standing}
 use Rattle.tableau.specs.declared.types.SignedAtom.{SignedAtom}
 use Rattle.tableau.specs.declared.types.Pass.{Pass}
@@ -14,7 +13,7 @@ use Rattle.tableau.specs.declared.types.Pass.TheVariants as pass
 use Rattle.tableau.specs.declared.types.Outcome.{Outcome}
 use Rattle.tableau.specs.declared.types.Outcome.TheVariants.{Done, Failed, Moved}
 use Rattle.tableau.specs.Signs.{Valuation, OpenIn, StandsIn, Clear, Modelled}
-use Rattle.tableau.specs.Branch.{Models, Clashes, Moment, State, choice, weight}
+use Rattle.tableau.specs.Branch.{Models, Moment, State, choice, weight}
 use Rattle.tableau.specs.Scans.{NoModel}
 
 -- the signed atom can be told and put on the trail

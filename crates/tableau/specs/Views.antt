@@ -1,6 +1,6 @@
 -- The search as the code holds it. t and b are the ghost members of the table's type and of the book's.
-use Rattle.std.specs.Prelude.{◌≡◌, ℕ, Bool, length, Option}
-use Rattle.semantics.specs.Branch.{Clash, ClassTable as Classes}
+use Rattle.std.specs.Prelude.{ℕ, Bool, length, Option}
+use Rattle.semantics.specs.Branch.{ClassTable as Classes}
 use Rattle.classes.specs.declared.table.ClassTable.{ClassTable}
 use Rattle.classes.specs.Leaders.{leader_of}
 use Rattle.tables.specs.declared.table.BranchTable.{Ghosts as TableGhosts}

@@ -1,8 +1,7 @@
-use Rattle.std.proofs.Common.{◌≡◌, Bool, [], ◌∷◌, ◌++◌, Decides, sym, refl, ap, ◌∙◌, subst}
+use Rattle.std.proofs.Common.{[], ◌∷◌, ◌++◌, Decides, sym, refl, ◌∙◌, subst}
 use Rattle.syntax.specs.declared.types.Literal.{Literal}
 use Rattle.semantics.specs.Judgements.{Consistent}
 use Rattle.books.specs.Suppositions.{unit}
-use Rattle.questions.specs.declared.answers.Certainty.{Certainty}
 use Rattle.questions.specs.Asked.{named, Tells}
 use Rattle.questions.proofs.Settling.{settled, after_clear}
 use Rattle.questions.proofs.ask.settle.Goals as goal

@@ -1,4 +1,4 @@
-use Rattle.std.proofs.Common.{◌≡◌, [], refl, ap, ◌∙◌, arith}
+use Rattle.std.proofs.Common.{[], refl, ap, arith}
 use Rattle.syntax.proofs.Laws.{few}
 use Rattle.classes.specs.Leaders.{leader_of}
 use Rattle.tableau.specs.Branch.{Frame}

@@ -1,4 +1,4 @@
-use Rattle.std.proofs.Common.{◌≡◌, refl, ◌∙◌, subst, arith}
+use Rattle.std.proofs.Common.{refl, ◌∙◌, subst, arith}
 use Rattle.semantics.specs.Branch.{Clash}
 use Rattle.tables.specs.Items.{items}
 use Rattle.tableau.specs.Views.{moment}

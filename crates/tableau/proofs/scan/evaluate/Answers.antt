@@ -1,12 +1,12 @@
-use Rattle.std.proofs.Common.{◌≡◌, ◌+◌, ◌<◌, List, [], length, get_or, take, sym, ap, ◌∙◌, subst, arith}
+use Rattle.std.proofs.Common.{◌≡◌, ◌+◌, List, [], get_or, take, sym, ap, ◌∙◌, subst, arith}
 use Rattle.syntax.specs.declared.counts.Counts.{Counts}
 use Rattle.syntax.specs.Lawful.{LawfulLiteral}
 use Rattle.books.proofs.Readings.{literal_of_list, literal_lawful, clause_lawful}
 use Rattle.tableau.specs.declared.types.SignedAtom.{SignedAtom}
 use Rattle.tableau.specs.declared.types.Status.{Status}
-use Rattle.tableau.specs.Signs.{signed_atom_of, instance, OpenIn, DeniedIn}
+use Rattle.tableau.specs.Signs.{signed_atom_of, instance}
 use Rattle.tableau.specs.Instances.{names_of, Below}
-use Rattle.tableau.specs.Scans.{Evaluated, with_open}
+use Rattle.tableau.specs.Scans.{Evaluated}
 use Rattle.tableau.proofs.Looks.{at_step, at_end, has_here, more_denied, more_open}
 use Rattle.tableau.proofs.scan.evaluate.Goals as goal
 use Rattle.tableau.proofs.scan.evaluate.Goals.{in-Denied, in-Untold}

@@ -1,5 +1,4 @@
-use Rattle.std.proofs.Common.{◌≡◌, sym, subst, arith}
-use Rattle.syntax.specs.declared.types.Ground.{Ground}
+use Rattle.std.proofs.Common.{sym, subst, arith}
 use Rattle.syntax.specs.Numbers.{LawfulGround}
 use Rattle.syntax.proofs.Laws.{few}
 use Rattle.semantics.proofs.Instances.{four_below, instance_lawful}

@@ -1,4 +1,4 @@
-use Rattle.std.proofs.Common.{◌≡◌, sym, refl, ap, ◌∙◌, subst, arith}
+use Rattle.std.proofs.Common.{refl, arith}
 use mathlib.Core.Bool.{false≢true}
 use Rattle.classes.specs.Leaders.{leader_of}
 use Rattle.tableau.specs.Views.{moment}

@@ -1,5 +1,5 @@
 use Rattle.tableau.specs.Views.{moment}
-use Rattle.tableau.proofs.Going.{lighter_steady, turned_on}
+use Rattle.tableau.proofs.Going.{turned_on}
 use Rattle.tableau.proofs.search.turn.Goals as goal
 
 pub returns-in-Rest : goal.returns-in-Rest

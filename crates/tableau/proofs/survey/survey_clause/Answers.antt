@@ -1,7 +1,7 @@
-use Rattle.std.proofs.Common.{◌≡◌, ◌<◌, [], get_or, sym, ap, ◌∙◌, subst, arith, below_more}
+use Rattle.std.proofs.Common.{[], get_or, subst, arith, below_more}
 use Rattle.tableau.specs.declared.types.FourNames.{FourNames}
 use Rattle.tableau.specs.Signs.{SomeOf, StandsIn, instance}
-use Rattle.tableau.specs.Instances.{names_of, ranges, size}
+use Rattle.tableau.specs.Instances.{names_of}
 use Rattle.tableau.proofs.Ranging.{narrow_at, size_at_index, names_at, below_at}
 use Rattle.tableau.proofs.Clauses.{assigns_below, satisfied, atom_below}
 use Rattle.tableau.proofs.States.{no_model}

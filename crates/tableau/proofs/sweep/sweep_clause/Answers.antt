@@ -1,6 +1,6 @@
-use Rattle.std.proofs.Common.{◌≡◌, Bool, true, false, [], get_or, sym, refl, ap, ◌∙◌, subst, arith}
+use Rattle.std.proofs.Common.{Bool, [], get_or, sym, subst, arith}
 use Rattle.tableau.specs.declared.types.Pass.{Pass}
-use Rattle.tableau.specs.Turns.{Gone, Passed, Ready}
+use Rattle.tableau.specs.Turns.{Gone, Passed}
 use Rattle.tableau.specs.Views.{moment}
 use Rattle.tableau.proofs.Ranging.{narrow_at, size_at_index, below_at}
 use Rattle.tableau.proofs.Going.{steady_here, steady_on, lighter_on, gone_steady, gone_rest, gone_pass}

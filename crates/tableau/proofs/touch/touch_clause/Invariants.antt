@@ -1,5 +1,5 @@
 use Rattle.std.proofs.Common.{◌-◌, [], length, get_or}
-use Rattle.tableau.specs.Turns.{Gone, Ready}
+use Rattle.tableau.specs.Turns.{Gone}
 use Rattle.tableau.specs.Views.{moment, Set}
 use Rattle.tableau.proofs.touch.touch_clause.Given as goal
 

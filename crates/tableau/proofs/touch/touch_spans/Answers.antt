@@ -1,6 +1,6 @@
-use Rattle.std.proofs.Common.{◌≡◌, Bool, true, false, sym, refl, ap, ◌∙◌, subst, arith}
+use Rattle.std.proofs.Common.{Bool, sym, subst, arith}
 use Rattle.tableau.specs.declared.types.Pass.{Pass}
-use Rattle.tableau.specs.Turns.{Gone, Passed, Ready}
+use Rattle.tableau.specs.Turns.{Gone, Passed}
 use Rattle.syntax.specs.declared.counts.Counts.{Counts}
 use Rattle.tableau.specs.Instances.{Below}
 use Rattle.tableau.specs.Spans.{InSpans}

@@ -1,4 +1,4 @@
-use Rattle.tableau.specs.Turns.{Gone, Ready}
+use Rattle.tableau.specs.Turns.{Gone}
 use Rattle.tableau.specs.Views.{moment, Set}
 use Rattle.tableau.proofs.touch.touch_spans.Given as goal
 

@@ -1,6 +1,6 @@
 use Rattle.std.proofs.Common.{◌-◌}
 use Rattle.syntax.specs.Numbers.{atoms}
-use Rattle.tableau.specs.Turns.{Gone, Ready}
+use Rattle.tableau.specs.Turns.{Gone}
 use Rattle.tableau.specs.Views.{moment, Set}
 use Rattle.tableau.proofs.variants.spread_from.Given as goal
 

@@ -1,7 +1,7 @@
-use Rattle.std.proofs.Common.{◌≡◌, ◌≤◌, Bool, true, false, sym, refl, ap, ◌∙◌, subst, arith}
+use Rattle.std.proofs.Common.{◌≤◌, Bool, sym, subst, arith}
 use Rattle.std.proofs.lemmas.Nat.{div_below}
 use Rattle.tableau.specs.declared.types.Pass.{Pass}
-use Rattle.tableau.specs.Turns.{Gone, Passed, Ready}
+use Rattle.tableau.specs.Turns.{Gone, Passed}
 use Rattle.tableau.specs.Views.{moment}
 use Rattle.tableau.proofs.Going.{steady_here, steady_on, lighter_on, gone_steady, gone_rest, gone_pass}
 use Rattle.tableau.proofs.variants.tell_linked.Goals as goal
