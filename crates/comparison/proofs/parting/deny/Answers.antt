@@ -12,8 +12,8 @@ loop-l-init g c =
     let b = g.B.Book in
     (refl, record { so_many = ap length c.requires.own; so = sym (append-nil (clauses_with b.counts b.clauses c.args.layer.now)) })
 
-pub overflow-add-j : goal.overflow-add-j
-overflow-add-j g c =
+pub overflow_add-j : goal.overflow_add-j
+overflow_add-j g c =
     let s = g.S.Book in
     let other = c.args.other.now in
     omega (arith, literal_within (s.counts other) (s.clauses other) c.args.i c.loop-l.j c.in-Some.l (s.lawful other) c.in-Some.ensures)
@@ -45,5 +45,5 @@ returns g c =
     let start = c.args.layer.now in
     record {
       counts = c.loop-l.invariant.0;
-      clauses = deny_all (g.S.Book.clauses c.args.other.now) (names_of c.args.names) c.args.i c.loop-l.j (clauses_with b.counts b.clauses start) (clauses_with b.counts b.clauses layer) (own_of layer) c.in-default.ensures c.loop-l.invariant.1;
+      clauses = deny_all (g.S.Book.clauses c.args.other.now) (names_of c.args.names) c.args.i c.loop-l.j (clauses_with b.counts b.clauses start) (clauses_with b.counts b.clauses layer) (own_of layer) c.in_default.ensures c.loop-l.invariant.1;
     }

@@ -20,4 +20,4 @@ returns g c =
     let assigns : Assigns k σ = subst (λ (q : Counts). Assigns q σ) c.requires.fine.counts c.requires.assigns in
     let o = c.over-layer.ensures in
     let d = c.deny.ensures in
-    parted k one other c.args.i c.requires.inside σ assigns m m' _ _ c.judge.result c.is-consistent.result (d.counts ∙ o.counts) (d.clauses ∙ ap (λ (xs : List (List Literal)). xs ++ denials σ (get_or other c.args.i [])) o.clauses) c.is-consistent.ensures c.judge.ensures.judged c.requires.fine.sizes
+    parted k one other c.args.i c.requires.inside σ assigns m m' _ _ c.judge.result c.is_consistent.result (d.counts ∙ o.counts) (d.clauses ∙ ap (λ (xs : List (List Literal)). xs ++ denials σ (get_or other c.args.i [])) o.clauses) c.is_consistent.ensures c.judge.ensures.judged c.requires.fine.sizes

@@ -15,8 +15,8 @@ use Rattle.comparison.proofs.parting.parts_instances.Goals as goal
 pub loop-names-init : goal.loop-names-init
 loop-names-init g c = (kept_none _, refl, omega arith, λ n h. absurd (omega arith))
 
-pub parts-at-requires : goal.parts-at-requires
-parts-at-requires g c =
+pub parts_at-requires : goal.parts_at-requires
+parts_at-requires g c =
     let k = g.F.Book.counts c.args.one.now in
     let d = g.S.Book.counts c.args.other.now in
     let one = g.F.Book.clauses c.args.one.now in
@@ -31,22 +31,22 @@ parts-at-requires g c =
       assigns = subst (λ (n : FourNames). Assigns d (names_of n)) (sym at.1) (each_assigns d cl c.of-ranges.result c.loop-names.k c.of-ranges.ensures at.0);
     }
 
-pub overflow-add-k : goal.overflow-add-k
-overflow-add-k g c = omega (arith, c.loop-names.invariant.2)
+pub overflow_add-k : goal.overflow_add-k
+overflow_add-k g c = omega (arith, c.loop-names.invariant.2)
 
 pub loop-names-smaller : goal.loop-names-smaller
 loop-names-smaller g c = let at = c.in-Some.ensures in omega (arith, at.0)
 
-pub returns-then-parts-at : goal.returns-then-parts-at
-returns-then-parts-at g c =
+pub returns-then-parts_at : goal.returns-then-parts_at
+returns-then-parts_at g c =
     let k = g.F.Book.counts c.args.one.now in
     let one = g.F.Book.clauses c.args.one.now in
     let other = g.S.Book.clauses c.args.other.now in
     let t = g.T.BranchTable in
     let m = lent t c.args.table.now c.args.trail.now c.args.choices.now c.args.model.now in
     let m' = lent t c.loop-names.table c.loop-names.trail c.loop-names.choices c.loop-names.model in
-    let m'' = lent t c.parts-at.new.table c.parts-at.new.trail c.parts-at.new.choices c.parts-at.new.model in
-    let p = c.if-parts-at.ensures in
+    let m'' = lent t c.parts_at.new.table c.parts_at.new.trail c.parts_at.new.choices c.parts_at.new.model in
+    let p = c.if-parts_at.ensures in
     (kept_more m m' m'' c.loop-names.invariant.0 p.0, apart_after k one other m m' m'' c.loop-names.invariant.1 p.1)
 
 pub loop-names-preserved : goal.loop-names-preserved
@@ -57,8 +57,8 @@ loop-names-preserved g c =
     let t = g.T.BranchTable in
     let m = lent t c.args.table.now c.args.trail.now c.args.choices.now c.args.model.now in
     let m' = lent t c.loop-names.table c.loop-names.trail c.loop-names.choices c.loop-names.model in
-    let m'' = lent t c.parts-at.new.table c.parts-at.new.trail c.parts-at.new.choices c.parts-at.new.model in
-    let p = c.if-parts-at.ensures in
+    let m'' = lent t c.parts_at.new.table c.parts_at.new.trail c.parts_at.new.choices c.parts_at.new.model in
+    let p = c.if-parts_at.ensures in
     let at = c.in-Some.ensures in
     let r = c.of-ranges.result in
     let P : ℕ → Type 0 = λ n. Contradictory k (one ++ denials (names_of (nth_assignment r n)) cl) in
@@ -80,4 +80,4 @@ returns g c =
     let e : d ≡ k = c.requires.fine.counts in
     let law : Lawful k cl = subst (λ (q : Counts). Lawful q cl) e (clause_lawful d other c.args.i (g.S.Book.lawful c.args.other.now) c.requires.inside) in
     let runs : RunsThrough k cl r = subst (λ (q : Counts). RunsThrough q cl r) e c.of-ranges.ensures in
-    (c.loop-names.invariant.0, c.loop-names.invariant.1, followed k one cl r c.loop-names.k law runs c.in-default.ensures c.loop-names.invariant.3)
+    (c.loop-names.invariant.0, c.loop-names.invariant.1, followed k one cl r c.loop-names.k law runs c.in_default.ensures c.loop-names.invariant.3)

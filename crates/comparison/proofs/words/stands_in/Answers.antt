@@ -4,12 +4,12 @@ use Rattle.std.proofs.ByRecursion.{has_get_or}
 use Rattle.std.proofs.lemmas.Bool.{false≢true}
 use Rattle.comparison.proofs.words.stands_in.Goals as goal
 
-pub returns-then-is-clause : goal.returns-then-is-clause
-returns-then-is-clause g c =
+pub returns-then-is_clause : goal.returns-then-is_clause
+returns-then-is_clause g c =
     let cs = g.F.Book.clauses c.args.one.now in
     let cl = get_or (g.S.Book.clauses c.args.other.now) c.args.i [] in
     let k = c.loop-k.k in
-    (λ _. subst (Has cs) (c.if-is-clause.ensures.0 refl) (has_get_or cs k [] (omega (arith, c.len-k-end.ensures))), λ _. refl)
+    (λ _. subst (Has cs) (c.if-is_clause.ensures.0 refl) (has_get_or cs k [] (omega (arith, c.len-k-end.ensures))), λ _. refl)
 
 pub returns : goal.returns
 returns g c =
