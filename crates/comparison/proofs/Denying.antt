@@ -1,10 +1,10 @@
 -- The denials of an instance, supposed one after the other.
-use Rattle.std.proofs.Common.{◌≡◌, ℕ, ◌+◌, ◌<◌, ◌≤◌, not, List, [], ◌∷◌, ◌++◌, length, get_or, take, Some, None, Result, sym, refl, ap, ◌∙◌, subst, append_assoc, arith, length-append, length-take}
+use Rattle.std.proofs.Common.{◌≡◌, ℕ, ◌+◌, ◌≤◌, not, List, [], ◌∷◌, ◌++◌, length, get_or, take, Some, None, Result, sym, refl, ap, ◌∙◌, subst, append_assoc, arith, length-append, length-take}
 use Rattle.std.proofs.lemmas.List.{take_more, take_all}
 use Rattle.syntax.specs.declared.types.Literal.{Literal}
 use Rattle.syntax.specs.declared.types.Refusal.{Refusal}
 use Rattle.syntax.specs.declared.counts.Counts.{Counts}
-use Rattle.syntax.specs.Lawful.{Lawful, LawfulLiteral, GroundLiteral}
+use Rattle.syntax.specs.Lawful.{GroundLiteral}
 use Rattle.semantics.specs.Meaning.{Clause, AllLawful, Assignment, Assigns, ground_of}
 use Rattle.semantics.specs.Suppositions.{unit, denials}
 use Rattle.semantics.proofs.Instances.{instance_lawful}

@@ -1,5 +1,5 @@
 -- The comparison of literals says exactly whether they are equal.
-use Rattle.std.proofs.Common.{◌≡◌, Bool, true, false, ◌&&◌, refl, sym, ap, ap₂, subst, ◌∙◌, arith, rules, Decides}
+use Rattle.std.proofs.Common.{◌≡◌, Bool, true, sym, ap, ap₂, subst, ◌∙◌, arith, rules, Decides}
 use Rattle.syntax.specs.declared.types.Term.{Term}
 use Rattle.syntax.specs.declared.types.Term.TheVariants.{Name, Var}
 use Rattle.syntax.specs.declared.types.Atom.{Atom}

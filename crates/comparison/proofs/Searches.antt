@@ -1,14 +1,13 @@
 -- From searches over suppositions to books told apart, or every clause followed.
-use Rattle.std.proofs.Common.{◌≡◌, ℕ, ◌+◌, ◌<◌, ◌≤◌, Bool, true, false, List, [], ◌++◌, length, get_or, take, drop, Some, None, Ok, Err, Option, Result, sym, refl, ap, ◌∙◌, subst, arith, below_more}
+use Rattle.std.proofs.Common.{◌≡◌, ℕ, ◌<◌, ◌≤◌, Bool, true, false, List, [], ◌++◌, length, get_or, take, drop, None, Ok, Err, Option, Result, sym, refl, ap, ◌∙◌, subst, arith}
 use native.Mathlib.Bridge.{le_prop}
 use Rattle.std.proofs.ByRecursion.{has_get_or, all-has}
 use Rattle.std.proofs.lemmas.Bool.Decides.{nat_tests}
-use Rattle.syntax.specs.declared.types.Literal.{Literal}
 use Rattle.syntax.specs.declared.types.Refusal.{Refusal}
 use Rattle.syntax.specs.declared.counts.Counts.{Counts}
 use Rattle.syntax.specs.Lawful.{Lawful, LawfulLiteral}
 use Rattle.syntax.specs.Numbers.{atoms}
-use Rattle.semantics.specs.Meaning.{Clause, ◌∈◌, AllLawful, Interpretation, value, Assignment, Assigns, ground_of, SomeHolds, Satisfies, Model}
+use Rattle.semantics.specs.Meaning.{Clause, ◌∈◌, Interpretation, value, Assignment, Assigns, SomeHolds, Satisfies}
 use Rattle.semantics.specs.Bytes.{BytesOf}
 use Rattle.semantics.specs.Branch.{own}
 use Rattle.semantics.specs.Judgements.{Contradictory, Within}

@@ -1,6 +1,5 @@
 -- A comparison has one answer, given exactly when it is due.
-use Rattle.std.proofs.Common.{◌≡◌, List, Some, None, Ok, Err, Option, Result, sym, refl, ap, ◌∙◌, subst, arith}
-use Rattle.syntax.specs.declared.types.Refusal.{Refusal}
+use Rattle.std.proofs.Common.{◌≡◌, List, Some, Ok, Err, sym, refl, ap, ◌∙◌, subst}
 use Rattle.syntax.specs.declared.counts.Counts.{Counts}
 use Rattle.semantics.specs.Meaning.{Clause}
 use Rattle.semantics.specs.Judgements.{IsFirstOnly, IsSecondOnly, EqualBooks}
@@ -9,7 +8,7 @@ use Rattle.tableau.specs.Judged.{Lent}
 use Rattle.questions.proofs.Truths.{some_none}
 use Rattle.comparison.specs.declared.answer.Comparison.{Comparison}
 use Rattle.comparison.specs.declared.answer.Comparison.TheVariants.{FirstOnly, SecondOnly, Equal}
-use Rattle.comparison.specs.Compared.{ToldApart, Compares, Compared, compare_refusal}
+use Rattle.comparison.specs.Compared.{Compares, compare_refusal}
 use Rattle.comparison.specs.Laws.{OneComparison, ExactComparison}
 
 -- what an answer means, without what it returns

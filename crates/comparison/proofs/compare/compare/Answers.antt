@@ -1,6 +1,5 @@
-use Rattle.std.proofs.Common.{◌≡◌, length, Some, None, sym, refl}
+use Rattle.std.proofs.Common.{length, Some, None, refl}
 use Rattle.tableau.specs.Judged.{lent}
-use Rattle.comparison.specs.Compared.{compare_refusal}
 use Rattle.comparison.proofs.Searches.{comparable, read_so, cleared_after}
 use Rattle.comparison.proofs.compare.compare.Goals as goal
 

@@ -1,10 +1,9 @@
-use Rattle.std.proofs.Common.{◌≡◌, List, [], ◌++◌, length, sym, refl, ap, ◌∙◌, arith}
+use Rattle.std.proofs.Common.{◌≡◌, length, sym, refl, ap, ◌∙◌, arith}
 use Rattle.std.proofs.lemmas.List.{append-nil}
-use Rattle.syntax.specs.declared.types.Literal.{Literal}
 use Rattle.books.specs.Suppositions.{own_of, counts_with, clauses_with}
 use Rattle.books.proofs.Readings.{literal_of_list, literal_within}
 use Rattle.instances.specs.Assignments.{names_of}
-use Rattle.comparison.proofs.Denying.{Denied, deny_more, deny_all}
+use Rattle.comparison.proofs.Denying.{deny_more, deny_all}
 use Rattle.comparison.proofs.parting.deny.Goals as goal
 
 pub loop-l-init : goal.loop-l-init

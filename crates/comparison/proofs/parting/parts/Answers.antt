@@ -1,4 +1,4 @@
-use Rattle.std.proofs.Common.{◌≡◌, ℕ, ◌<◌, List, [], length, get_or, sym, refl, ap, ◌∙◌, subst, arith, below_more}
+use Rattle.std.proofs.Common.{ℕ, [], get_or, refl, ◌∙◌, arith, below_more}
 use Rattle.tableau.specs.Judged.{lent}
 use Rattle.comparison.specs.Compared.{Follows}
 use Rattle.comparison.proofs.Searches.{comparable_after, kept_more, kept_none, apart_after, within}

@@ -1,4 +1,4 @@
-use Rattle.std.proofs.Common.{[], length, get_or, refl, arith}
+use Rattle.std.proofs.Common.{[], get_or, refl, arith}
 use Rattle.books.proofs.Readings.{literal_of_list, literal_is, literal_within}
 use Rattle.comparison.proofs.Wording.{same_next, same_end}
 use Rattle.comparison.proofs.words.is_clause.Goals as goal
