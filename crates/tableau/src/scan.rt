@@ -2,8 +2,8 @@
 ghost use Rattle.std.specs.Prelude.{◌≡◌, ℕ, ◌<◌, ◌≤◌, [], length, slice_index_or};
 ghost use Rattle.syntax.specs.Numbers.{atoms};
 ghost use Rattle.syntax.specs.Lawful.{LawfulLiteral};
-ghost use Rattle.semantics.specs.Meaning.{name_at, ground_of as ground_by};
-ghost use Rattle.tableau.specs.Signs.{signed_atom_of as SignedBy, instance};
+ghost use Rattle.semantics.specs.Meaning.{name_at, ground_of};
+ghost use Rattle.tableau.specs.Signs.{signed_atom_of, instance};
 ghost use Rattle.tableau.specs.Instances.{names_of, Below};
 ghost use Rattle.tableau.specs.Scans.{Looked, Evaluated, with_open};
 
@@ -29,7 +29,7 @@ fn name_of(names: FourNames, term: Term) -> u8
 
 // The instance of an atom.
 fn ground(names: FourNames, atom: Atom) -> Ground
-    ensures { result ≡ ground_by (names_of names) atom }
+    ensures { result ≡ ground_of (names_of names) atom }
 {
     match atom {
         Atom::Same(t, u) => Ground::Same(name_of(names, t), name_of(names, u)),
@@ -42,7 +42,7 @@ fn ground(names: FourNames, atom: Atom) -> Ground
 fn signed_atom(counts: Counts, names: FourNames, l: Literal) -> SignedAtom
     requires lawful { LawfulLiteral counts l }
     requires below { Below counts names }
-    ensures is { result ≡ SignedBy counts (names_of names) l }
+    ensures is { result ≡ signed_atom_of counts (names_of names) l }
     ensures below { result.atom < atoms counts }
 {
     match atom_number(counts, ground(names, l.atom)) {

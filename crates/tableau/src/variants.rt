@@ -1,7 +1,7 @@
 // Tells atoms of names that are linked with those of atoms that stand.
 ghost use Rattle.std.specs.Prelude.{◌≡◌, true};
 ghost use Rattle.classes.specs.Leaders.{leader_of};
-ghost use Rattle.tableau.specs.Variants.{renamed as RenamedBy, OneLed, SignOf, OpenAtom};
+ghost use Rattle.tableau.specs.Variants.{renamed as renamed_by, OneLed, SignOf, OpenAtom};
 ghost use Rattle.tableau.specs.Views.{moment, Set, Fits, Passes};
 
 use crate::spans::bind;
@@ -17,7 +17,7 @@ use tables::table::BranchTable;
 
 // The atom with other names.
 fn renamed(g: Ground, x: u8, y: u8) -> Ground
-    ensures { result ≡ RenamedBy g x y }
+    ensures { result ≡ renamed_by g x y }
 {
     match g {
         Ground::Same(_, _) => Ground::Same(x, y),
