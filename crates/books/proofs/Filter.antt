@@ -1,4 +1,4 @@
--- A loop over the literals that are ground_of and lawful, by what is left of the list.
+-- A loop over the literals that are ground and lawful, by what is left of the list.
 use Rattle.std.proofs.Common.{◌≡◌, ℕ, zero, suc, ◌+◌, ◌-◌, ◌<◌, Bool, true, false, List, [], ◌∷◌, ◌++◌, length, get_or, drop, Decides, filter, ap, ◌∙◌, not-suc-le-zero, arith}
 use Rattle.std.specs.List.{slice_get}
 use Rattle.std.proofs.lemmas.List.Elements.{filter-append}

@@ -16,7 +16,7 @@ use Rattle.books.specs.Layers.{laid, laid_lawful, laid_few}
 abbrev pub unit : Literal → List Literal
 unit l = l ∷ []
 
--- of the literals, those that are ground_of and lawful at the counts, each as a clause
+-- of the literals, those that are ground and lawful at the counts, each as a clause
 abbrev pub units : Counts → List Literal → List (List Literal)
 units c ls = map unit (filter (ground_literal c) ls)
 

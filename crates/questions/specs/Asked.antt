@@ -47,7 +47,7 @@ abbrev pub ask_refusal : Counts → List Clause → Literal → Lent → Option 
 ask_refusal c clauses l m =
     question_refusal c (length clauses) l (length m.marks) m.room (length m.trail) (length m.choices)
 
--- when each answer on a ground_of literal is due
+-- when each answer on a ground literal is due
 abbrev pub Tells : Counts → List Clause → Ground → Bool → Certainty → Type 0
 Tells c clauses g s certainty.Contradictory = Contradictory c clauses
 Tells c clauses g s certainty.Sure = Sure c clauses g s

@@ -35,7 +35,7 @@ instance_lawful c σ l assigns h = ground_lawful c σ l.atom assigns h
 pub in_clause : (c : Counts) (σ : Assignment) (cl : Clause) (l : Literal) → Assigns c σ → Lawful c cl → l ∈ cl → LawfulGround c (ground_of σ l.atom)
 in_clause c σ cl l assigns lawful i = instance_lawful c σ l assigns (all-has (LawfulLiteral c) cl l lawful.each i)
 
--- a ground_of atom is its own instance
+-- a ground atom is its own instance
 pub ground_of_atom : (σ : Assignment) (g : Ground) → ground_of σ (atom_of g) ≡ g
 ground_of_atom σ (Same a b) = refl
 ground_of_atom σ (Prop p a) = refl

@@ -15,7 +15,7 @@ use Rattle.semantics.proofs.Finite.{all_from, find_in, find_below}
 use Rattle.semantics.proofs.Instances.{ground_of_atom, four_at, four_below, ground_same}
 use Rattle.semantics.proofs.Marks.{not_both, cases_sign}
 
--- a clause of one ground_of literal says that the literal holds
+-- a clause of one ground literal says that the literal holds
 pub unit_out : (c : Counts) (I : Interpretation) (g : Ground) (s : Bool) → Satisfies c I (unit g s) → value I g ≡ s
 unit_out c I g s sat =
     let σ : Assignment = λ v. 0 in

@@ -1,4 +1,4 @@
--- A branch: what is told of the ground_of atoms. Links, clashes, and the branch's own model.
+-- A branch: what is told of the ground atoms. Links, clashes, and the branch's own model.
 use Rattle.std.specs.Prelude.{◌≡◌, ℕ, zero, suc, ◌<◌, ◌≤◌, Bool, true, false, not, ◌&&◌, ◌||◌, ◌⊎◌, List, ◌==◌, slice_index_or, slice_set}
 use Rattle.syntax.specs.declared.types.Ground.{Ground}
 use Rattle.syntax.specs.declared.types.Ground.TheVariants.{Same, Prop, Rel}
@@ -9,7 +9,7 @@ use Rattle.syntax.specs.declared.counts.Counts.{Counts}
 use Rattle.syntax.specs.Numbers.{number_of, LawfulGround}
 use Rattle.semantics.specs.Meaning.{Clause, ◌∈◌, Interpretation, value, Assignment, Assigns, ground_of, Model}
 
--- the marks of the ground_of atoms, each at its number; an atom past the end is open
+-- the marks of the ground atoms, each at its number; an atom past the end is open
 abbrev pub Branch : Type 0
 Branch = List Mark
 

@@ -10,7 +10,7 @@ abbrev pub bit : Bool → ℕ
 bit true = 1
 bit false = 0
 
--- the byte at the number of a ground_of atom
+-- the byte at the number of a ground atom
 abbrev pub byte_at : Counts → List ℕ → Ground → ℕ
 byte_at c bytes g = slice_index bytes (number_of c g)
 

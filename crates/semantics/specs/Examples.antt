@@ -30,7 +30,7 @@ ref r = said (Rel r (Var 0) (Var 0)) ∷ []
 abbrev pub irref : ℕ → Clause
 irref r = denied (Rel r (Var 0) (Var 0)) ∷ []
 
--- ground_of literals
+-- ground literals
 abbrev pub is : ℕ → ℕ → Clause
 is a p = said (Prop p (Name a)) ∷ []
 

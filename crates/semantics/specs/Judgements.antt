@@ -1,4 +1,4 @@
--- What books are judged to be, and what they say of a ground_of literal: statements about interpretations and models.
+-- What books are judged to be, and what they say of a ground literal: statements about interpretations and models.
 use Rattle.std.specs.Prelude.{◌≡◌, ℕ, Bool, true, not, List}
 use Rattle.syntax.specs.declared.types.Ground.{Ground}
 use Rattle.syntax.specs.declared.types.Ground.TheVariants.{Same}

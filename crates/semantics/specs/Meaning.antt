@@ -32,7 +32,7 @@ pub record Interpretation : Type 0 where
 abbrev pub Over : Counts → Interpretation → Type 0
 Over c I = (a : ℕ) → a < c.names → I.thing a < c.names
 
--- whether a ground_of atom holds
+-- whether a ground atom holds
 abbrev pub value : Interpretation → Ground → Bool
 value I (Same a b) = I.thing a == I.thing b
 value I (Prop p a) = I.prop p (I.thing a)

@@ -4,7 +4,7 @@ use Rattle.syntax.specs.declared.types.Ground.{Ground}
 use Rattle.syntax.specs.Numbers.{atom_of}
 use Rattle.semantics.specs.Meaning.{Clause, Assignment, ground_of}
 
--- a ground_of literal as a clause
+-- a ground literal as a clause
 abbrev pub unit : Ground → Bool → Clause
 unit g s = record { sign = s; atom = atom_of g } ∷ []
 

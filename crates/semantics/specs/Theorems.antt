@@ -124,7 +124,7 @@ Refutation = (c : Counts) (clauses : List Clause) → AllLawful c clauses → Re
 
 -- Suppositions.
 
--- clauses and a denied ground_of literal have no model exactly when every model makes the literal hold
+-- clauses and a denied ground literal have no model exactly when every model makes the literal hold
 abbrev pub Denial : Type 0
 Denial =
     (c : Counts) (clauses : List Clause) (g : Ground) (s : Bool) →

@@ -34,7 +34,7 @@ ground_decides c l = atom_decides c (ground_term c) (GroundTerm c) (name_decides
 pub literals_decides : (c : Counts) (ls : List Literal) → Decides (lawful_literals c ls) (AllByRecursion (LawfulLiteral c) ls)
 literals_decides c ls = Decides-by_and (lawful_literal c) (LawfulLiteral c) (lawful_literals c) (literal_decides c) refl (λ _ _. refl) ls
 
--- a ground_of literal is lawful
+-- a ground literal is lawful
 term_weaker : (c : Counts) (t : Term) → GroundTerm c t → LawfulTerm c t
 term_weaker c (Name a) h = h
 term_weaker c (Var v) h = absurd h

@@ -1,4 +1,4 @@
--- The numbers of the ground_of atoms, and the laws that everything above uses in place of the formula.
+-- The numbers of the ground atoms, and the laws that everything above uses in place of the formula.
 use Rattle.std.specs.Prelude.{◌≡◌, ℕ, ◌+◌, ◌*◌, ◌<◌, ◌≤◌, Some, None, Option}
 use Rattle.syntax.specs.declared.types.Ground.{Ground}
 use Rattle.syntax.specs.declared.types.Ground.TheVariants.{Same, Prop, Rel}
@@ -8,23 +8,23 @@ use Rattle.syntax.specs.declared.types.Atom.TheVariants.{Same as Same', Prop as 
 use Rattle.syntax.specs.declared.counts.Counts.{Counts}
 use Rattle.syntax.specs.Lawful.{AtomBy, GroundTerm}
 
--- how many ground_of atoms there are: A
+-- how many ground atoms there are: A
 unfoldable pub atoms : Counts → ℕ
 atoms c = c.names * c.names + c.properties * c.names + c.relations * c.names * c.names
 
--- the number of a ground_of atom
+-- the number of a ground atom
 unfoldable pub number_of : Counts → Ground → ℕ
 number_of c (Same a b) = a * c.names + b
 number_of c (Prop p a) = c.names * c.names + p * c.names + a
 number_of c (Rel r a b) = c.names * c.names + c.properties * c.names + (r * c.names + a) * c.names + b
 
--- a ground_of atom as an atom
+-- a ground atom as an atom
 abbrev pub atom_of : Ground → Atom
 atom_of (Same a b) = Same' (Name a) (Name b)
 atom_of (Prop p a) = Prop' p (Name a)
 atom_of (Rel r a b) = Rel' r (Name a) (Name b)
 
--- a ground_of atom of the book: its symbol and names lie below the counts
+-- a ground atom of the book: its symbol and names lie below the counts
 abbrev pub LawfulGround : Counts → Ground → Type 0
 LawfulGround c g = AtomBy c (GroundTerm c) (atom_of g)
 
