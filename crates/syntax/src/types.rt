@@ -31,6 +31,13 @@ pub enum Ground {
     Rel(u8, u8, u8),
 }
 
+// The number of a ground atom, and a sign.
+#[derive(Clone, Copy, PartialEq)]
+pub struct SignedAtom {
+    pub atom: u16,
+    pub sign: bool,
+}
+
 // What a branch says of a ground atom.
 #[derive(Clone, Copy, PartialEq)]
 pub enum Mark {

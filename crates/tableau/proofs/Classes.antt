@@ -9,7 +9,7 @@ use Rattle.semantics.specs.Branch.{Branch, mark_at, tell, Clash, ClassTable, sig
 use Rattle.classes.specs.Leaders.{JoinsNone}
 use Rattle.classes.specs.Clashes.{ClashAt}
 use Rattle.classes.proofs.Clashing.{classes_told, clash_told}
-use Rattle.tableau.specs.declared.types.SignedAtom.{SignedAtom}
+use Rattle.syntax.specs.declared.types.SignedAtom.{SignedAtom}
 use Rattle.tableau.specs.Signs.{StandsIn}
 use Rattle.tableau.proofs.Clauses.{same_signed}
 

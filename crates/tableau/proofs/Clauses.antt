@@ -16,7 +16,7 @@ use Rattle.semantics.specs.Checks.{uses, atom_use}
 use Rattle.semantics.proofs.Instances.{in_clause, instance_lawful, four_below, four_at, ground_same}
 use Rattle.semantics.proofs.Checking.{ground_used}
 use Rattle.tables.specs.Marks.{signed}
-use Rattle.tableau.specs.declared.types.SignedAtom.{SignedAtom}
+use Rattle.syntax.specs.declared.types.SignedAtom.{SignedAtom}
 use Rattle.tableau.specs.declared.types.FourNames.{FourNames}
 use Rattle.tableau.specs.declared.types.Survey.{Survey}
 use Rattle.tableau.specs.declared.types.Survey.TheVariants as survey

@@ -7,7 +7,7 @@ use Rattle.syntax.specs.Numbers.{number_of}
 use Rattle.semantics.specs.Meaning.{Clause}
 use Rattle.semantics.specs.Branch.{Branch, Clash, ClassTable, signed as signed_so}
 use Rattle.semantics.proofs.Steps.{no_clash}
-use Rattle.tableau.specs.declared.types.SignedAtom.{SignedAtom}
+use Rattle.syntax.specs.declared.types.SignedAtom.{SignedAtom}
 use Rattle.tableau.specs.Signs.{Says, OpenIn, Modelled}
 use Rattle.tableau.specs.Branch.{Moment}
 use Rattle.tableau.specs.Scans.{NoModel}

@@ -11,7 +11,7 @@ use Rattle.tables.specs.declared.stack.Stack.{Stack}
 use Rattle.tables.specs.Items.{slots_of, loan_of}
 use Rattle.tables.specs.Walks.{opened}
 use Rattle.tables.specs.Counting.{OpenFrom}
-use Rattle.tableau.specs.declared.types.SignedAtom.{SignedAtom}
+use Rattle.syntax.specs.declared.types.SignedAtom.{SignedAtom}
 use Rattle.tableau.specs.Signs.{Valuation, Holds, SomeOf, Clear, OpenIn, StandsIn, DeniedIn, Agrees}
 use Rattle.tableau.specs.Branch.{Models, Clashes, Step, forced, chosen, told, trail_of, choice, choices_of, marks_of, Held, Forces, Refuted, Reason, Frame, Roomy, Moment, State, weight}
 use Rattle.tableau.specs.Scans.{AllBut, NoModel, Entails}

@@ -11,7 +11,7 @@ use Rattle.tables.specs.Marks.{signed, stands, standing}
 use Rattle.tables.specs.Walks.{opened}
 use Rattle.tables.specs.Counting.{OpenFrom}
 use Rattle.tables.proofs.Counts.{standing_set, stands_signed, at_most}
-use Rattle.tableau.specs.declared.types.SignedAtom.{SignedAtom}
+use Rattle.syntax.specs.declared.types.SignedAtom.{SignedAtom}
 use Rattle.tableau.specs.Signs.{Valuation, Holds, SomeOf, Clear, OpenIn, DeniedIn, Says, Agrees}
 use Rattle.tableau.specs.Branch.{Models, Clashes, Step, forced, chosen, told, trail_of, choice, choices_of, marks_of, HeldBy, Held, Refuted, Reason, Sound}
 use Rattle.tableau.specs.Scans.{AllBut}

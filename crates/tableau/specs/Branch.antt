@@ -5,7 +5,7 @@ use Rattle.syntax.specs.declared.types.Mark.{Mark}
 use Rattle.tables.specs.declared.stack.Choice.{Choice}
 use Rattle.tables.specs.Memory.{Loan}
 use Rattle.tables.specs.Marks.{signed}
-use Rattle.tableau.specs.declared.types.SignedAtom.{SignedAtom}
+use Rattle.syntax.specs.declared.types.SignedAtom.{SignedAtom}
 use Rattle.tableau.specs.Signs.{Valuation, Holds, Clear, OpenIn}
 
 abbrev pub Models : Type 1

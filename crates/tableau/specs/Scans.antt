@@ -6,7 +6,7 @@ use Rattle.syntax.specs.declared.counts.Counts.{Counts}
 use Rattle.syntax.specs.Numbers.{atoms}
 use Rattle.semantics.specs.Meaning.{Clause}
 use Rattle.semantics.specs.Branch.{Fulfilled as AllFulfilled}
-use Rattle.tableau.specs.declared.types.SignedAtom.{SignedAtom}
+use Rattle.syntax.specs.declared.types.SignedAtom.{SignedAtom}
 use Rattle.tableau.specs.declared.types.Look.{Look}
 use Rattle.tableau.specs.declared.types.Look.TheVariants.{Stands, Denied, Untold}
 use Rattle.tableau.specs.declared.types.Status.{Status}

@@ -9,7 +9,7 @@ use Rattle.syntax.specs.declared.counts.Counts.{Counts}
 use Rattle.syntax.specs.Numbers.{number_of, LawfulGround}
 use Rattle.semantics.specs.Meaning.{Clause, Interpretation, value, Assignment, ground_of, Model}
 use Rattle.tables.specs.Marks.{signed}
-use Rattle.tableau.specs.declared.types.SignedAtom.{SignedAtom}
+use Rattle.syntax.specs.declared.types.SignedAtom.{SignedAtom}
 
 -- a valuation says of each number whether the atom of that number holds
 abbrev pub Valuation : Type 0

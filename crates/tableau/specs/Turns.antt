@@ -7,7 +7,7 @@ use Rattle.syntax.specs.Numbers.{atoms}
 use Rattle.semantics.specs.Meaning.{Clause}
 use Rattle.semantics.specs.Branch.{Clash, Fulfilled, ClassTable}
 use Rattle.tables.specs.Marks.{signed, standing}
-use Rattle.tableau.specs.declared.types.SignedAtom.{SignedAtom}
+use Rattle.syntax.specs.declared.types.SignedAtom.{SignedAtom}
 use Rattle.tableau.specs.declared.types.Pass.{Pass}
 use Rattle.tableau.specs.declared.types.Pass.TheVariants as pass
 use Rattle.tableau.specs.declared.types.Outcome.{Outcome}

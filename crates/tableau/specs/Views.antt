@@ -8,7 +8,7 @@ use Rattle.tables.specs.declared.stack.Stack.{Stack}
 use Rattle.tables.specs.declared.stack.Choice.{Choice}
 use Rattle.tables.specs.Items.{items, slots_of, loan_of}
 use Rattle.books.specs.declared.book.Book.{Ghosts as BookGhosts}
-use Rattle.tableau.specs.declared.types.SignedAtom.{SignedAtom}
+use Rattle.syntax.specs.declared.types.SignedAtom.{SignedAtom}
 use Rattle.tableau.specs.declared.types.Pass.{Pass}
 use Rattle.tableau.specs.declared.types.Outcome.{Outcome}
 use Rattle.tableau.specs.Signs.{Modelled}

@@ -6,12 +6,11 @@ ghost use Rattle.semantics.specs.Branch.{Clash, ClassTable as Classes};
 ghost use Rattle.classes.specs.Leaders.{leader_of, JoinsNone};
 ghost use Rattle.tableau.specs.Signs.{StandsIn};
 
-use crate::types::SignedAtom;
 use books::book::Book;
 use classes::clash::{clashes, clashes_at};
 use classes::table::ClassTable;
 use syntax::numbers::atom_at;
-use syntax::types::Ground;
+use syntax::types::{Ground, SignedAtom};
 use tables::table::BranchTable;
 
 // Whether telling the atom with the sign may join two classes.

@@ -6,8 +6,8 @@ ghost use Rattle.tables.specs.Items.{items, slots_of};
 ghost use Rattle.tableau.specs.Turns.{Puttable, Put, Chosen};
 ghost use Rattle.tableau.specs.Views.{moment, Searching, Hopeless, Flips};
 
-use crate::types::SignedAtom;
 use books::book::Book;
+use syntax::types::SignedAtom;
 use tables::stack::{Choice, Stack};
 use tables::table::BranchTable;
 use tables::walk::untell_to;

@@ -7,11 +7,11 @@ ghost use Rattle.tableau.specs.Signs.{signed_atom_of, instance};
 ghost use Rattle.tableau.specs.Instances.{names_of, Below};
 ghost use Rattle.tableau.specs.Scans.{Looked, Evaluated, with_open};
 
-use crate::types::{FourNames, Look, SignedAtom, Status};
+use crate::types::{FourNames, Look, Status};
 use books::book::Book;
 use syntax::counts::Counts;
 use syntax::numbers::atom_number;
-use syntax::types::{Atom, Ground, Literal, Mark, Term};
+use syntax::types::{Atom, Ground, Literal, Mark, SignedAtom, Term};
 use tables::table::BranchTable;
 
 // The name that a term stands for.

@@ -1,11 +1,5 @@
 // What the search speaks of. No clause stands in this file, so that specs/ can name the types.
-
-// The number of a ground atom, and a sign.
-#[derive(Clone, Copy)]
-pub(crate) struct SignedAtom {
-    pub(crate) atom: u16,
-    pub(crate) sign: bool,
-}
+use syntax::types::SignedAtom;
 
 // The names put for the variables 0 to 3.
 #[derive(Clone, Copy)]

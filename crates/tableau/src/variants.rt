@@ -6,12 +6,12 @@ ghost use Rattle.tableau.specs.Views.{moment, Set, Fits, Passes};
 
 use crate::spans::bind;
 use crate::sweep::{enforce, pass_of};
-use crate::types::{Hints, Pass, SignedAtom};
+use crate::types::{Hints, Pass};
 use books::book::Book;
 use classes::table::ClassTable;
 use syntax::counts::Counts;
 use syntax::numbers::{atom_at, atom_number};
-use syntax::types::{Ground, Mark};
+use syntax::types::{Ground, Mark, SignedAtom};
 use tables::stack::{Choice, Stack};
 use tables::table::BranchTable;
 

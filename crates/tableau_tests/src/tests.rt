@@ -4,12 +4,11 @@ use books::supposition::Supposition;
 use books::working::WorkingBook;
 use std::process::Abort;
 use std::test::Fail;
-use syntax::types::{Atom, Literal, Refusal, Term};
+use syntax::types::{Atom, Literal, Refusal, SignedAtom, Term};
 use tableau::judge::judge;
 use tableau::verdict::Verdict;
 use tables::listed::ListedTable;
 use tables::packed::PackedTable;
-use tables::row::Row;
 use tables::stack::Choice;
 use tables::table::BranchTable;
 
@@ -68,7 +67,7 @@ fn at_packed<B: Book>(book: &B) -> Result<Verdict, Refusal> {
 }
 
 fn at_listed<B: Book>(book: &B, entries: usize) -> Result<Verdict, Refusal> {
-    let mut rows = [Row {
+    let mut rows = [SignedAtom {
         atom: 0,
         sign: false,
     }; 64];

@@ -2,7 +2,7 @@
 use Rattle.std.proofs.Common.{◌≡◌, ℕ, zero, suc, ◌+◌, ◌<◌, ◌≤◌, Bool, ◌≢◌, List, [], ◌∷◌, ◌++◌, length, get_or, take, set, replicate, sym, refl, ap, ◌∙◌, subst, inl, inr, le_of_suc-le-suc, arith}
 use Rattle.std.proofs.lemmas.List.{length-set, length-replicate, length_push, get_or-set_same, get_or-set_other, set-set, set_comm, set_past, get_or_past, get_or_append_left, get_or_push, take_more, take_more_set, length-take-le}
 use Rattle.std.proofs.lemmas.Bool.{cases_lt}
-use Rattle.tables.specs.declared.row.Row.{Row}
+use Rattle.syntax.specs.declared.types.SignedAtom.{SignedAtom}
 use Rattle.syntax.specs.declared.types.Mark.{Mark}
 use Rattle.syntax.specs.declared.types.Mark.TheVariants.{Open}
 use Rattle.tables.specs.Marks.{stands, standing, signed, cleared}
@@ -31,7 +31,7 @@ all_length : length all_open ≡ 10240
 unfolding all_open
 all_length = length-replicate 10240 Open
 
-pub listed_length : (rs : List Row) → length (listed rs) ≡ 10240
+pub listed_length : (rs : List SignedAtom) → length (listed rs) ≡ 10240
 listed_length [] = all_length
 listed_length (r ∷ rs) = length-set (listed rs) r.atom (signed r.sign) ∙ listed_length rs
 
@@ -42,12 +42,12 @@ set_le ms k b = elim (cases_lt k (length ms)) [
   | inr h ↦ omega (arith, ap standing (set_past ms k (signed b) h))
 ]
 
-pub count_le : (rs : List Row) → standing (listed rs) ≤ length rs
+pub count_le : (rs : List SignedAtom) → standing (listed rs) ≤ length rs
 count_le [] = omega (arith, none_stand)
 count_le (r ∷ rs) = omega (arith, set_le (listed rs) r.atom r.sign, count_le rs)
 
 -- the first row's atom is in reach, and no other row has it
-pub first : (r : Row) (rs : List Row) → Each (r ∷ rs) → Each rs × (r.atom < length (listed rs)) × (stands (get_or (listed rs) r.atom Open) ≡ 0)
+pub first : (r : SignedAtom) (rs : List SignedAtom) → Each (r ∷ rs) → Each rs × (r.atom < length (listed rs)) × (stands (get_or (listed rs) r.atom Open) ≡ 0)
 first r rs e = elim (cases_lt r.atom (length (listed rs))) [
   | inl h ↦
       let s = standing_set (listed rs) r.atom (signed r.sign) h in
@@ -65,7 +65,7 @@ apart : (ms : List Mark) (j k : ℕ) → stands (get_or ms j Open) ≡ 0 → sta
 apart ms j k o s e = omega (arith, ap (λ x. stands (get_or ms x Open)) e)
 
 -- the mark of a row's atom is the row's sign
-pub sign_at : (rs : List Row) (i : ℕ) (d : Row) → i < length rs → Each rs → get_or (listed rs) (get_or rs i d).atom Open ≡ signed (get_or rs i d).sign
+pub sign_at : (rs : List SignedAtom) (i : ℕ) (d : SignedAtom) → i < length rs → Each rs → get_or (listed rs) (get_or rs i d).atom Open ≡ signed (get_or rs i d).sign
 sign_at [] i d h e = absurd (omega arith)
 sign_at (r ∷ rs) zero d h e = get_or-set_same (listed rs) r.atom (signed r.sign) Open (first r rs e).1
 sign_at (r ∷ rs) (suc i) d h e =
@@ -75,18 +75,18 @@ sign_at (r ∷ rs) (suc i) d h e =
     (λ p. apart (listed rs) r.atom (get_or rs i d).atom f.2 (ap stands s ∙ stands_signed (get_or rs i d).sign) (sym p))
     ∙ s
 
-pub stands_at : (rs : List Row) (i : ℕ) (d : Row) → i < length rs → Each rs → stands (get_or (listed rs) (get_or rs i d).atom Open) ≡ 1
+pub stands_at : (rs : List SignedAtom) (i : ℕ) (d : SignedAtom) → i < length rs → Each rs → stands (get_or (listed rs) (get_or rs i d).atom Open) ≡ 1
 stands_at rs i d h e = ap stands (sign_at rs i d h e) ∙ stands_signed (get_or rs i d).sign
 
 -- an atom with no row is open
-pub absent : (rs : List Row) (a : ℕ) → ((k : ℕ) (d : Row) → k < length rs → (get_or rs k d).atom ≡ a → ⊥) → stands (get_or (listed rs) a Open) ≡ 0
+pub absent : (rs : List SignedAtom) (a : ℕ) → ((k : ℕ) (d : SignedAtom) → k < length rs → (get_or rs k d).atom ≡ a → ⊥) → stands (get_or (listed rs) a Open) ≡ 0
 absent [] a none = none_open a
 absent (r ∷ rs) a none =
     ap stands (get_or-set_other (listed rs) r.atom a (signed r.sign) Open (λ p. none 0 r (omega arith) (sym p)))
     ∙ absent rs a (λ k d h. none (suc k) d (omega arith))
 
 -- one more row, at the end
-pub push : (rs : List Row) (z : Row) → Each rs → stands (get_or (listed rs) z.atom Open) ≡ 0 → listed (rs ++ (z ∷ [])) ≡ set (listed rs) z.atom (signed z.sign)
+pub push : (rs : List SignedAtom) (z : SignedAtom) → Each rs → stands (get_or (listed rs) z.atom Open) ≡ 0 → listed (rs ++ (z ∷ [])) ≡ set (listed rs) z.atom (signed z.sign)
 push [] z e o = refl
 push (r ∷ rs) z e o =
     let f = first r rs e in
@@ -95,18 +95,18 @@ push (r ∷ rs) z e o =
     let o' = sym (ap stands (get_or-set_other (listed rs) r.atom z.atom (signed r.sign) Open ne)) ∙ o in
     ap (λ m. set m r.atom (signed r.sign)) (push rs z f.0 o') ∙ set_comm (listed rs) z.atom r.atom (signed z.sign) (signed r.sign) ne
 
-pub push_each : (rs : List Row) (z : Row) → z.atom < 10240 → Each rs → stands (get_or (listed rs) z.atom Open) ≡ 0 → Each (rs ++ (z ∷ []))
+pub push_each : (rs : List SignedAtom) (z : SignedAtom) → z.atom < 10240 → Each rs → stands (get_or (listed rs) z.atom Open) ≡ 0 → Each (rs ++ (z ∷ []))
 push_each rs z h e o =
     omega (arith, ap standing (push rs z e o), standing_set (listed rs) z.atom (signed z.sign) (omega (arith, listed_length rs)), stands_signed z.sign, length_push rs z)
 
-in_reach : (rs : List Row) (z : Row) → Each (rs ++ (z ∷ [])) → Each rs → stands (get_or (listed rs) z.atom Open) ≡ 0 → z.atom < length (listed rs)
+in_reach : (rs : List SignedAtom) (z : SignedAtom) → Each (rs ++ (z ∷ [])) → Each rs → stands (get_or (listed rs) z.atom Open) ≡ 0 → z.atom < length (listed rs)
 in_reach rs z e i o = elim (cases_lt z.atom (length (listed rs))) [
   | inl h ↦ h
   | inr h ↦ absurd (omega (arith, e, i, ap standing (push rs z i o), ap standing (set_past (listed rs) z.atom (signed z.sign) h), length_push rs z))
 ]
 
 -- the last row's atom is in reach, and no row before it has it
-pub last : (rs : List Row) (z : Row) → Each (rs ++ (z ∷ [])) → Each rs × (stands (get_or (listed rs) z.atom Open) ≡ 0)
+pub last : (rs : List SignedAtom) (z : SignedAtom) → Each (rs ++ (z ∷ [])) → Each rs × (stands (get_or (listed rs) z.atom Open) ≡ 0)
 last [] z e = (none_stand, none_open z.atom)
 last (r ∷ rs) z e =
     let f = first r (rs ++ (z ∷ [])) e in
@@ -123,7 +123,7 @@ last (r ∷ rs) z e =
     )
 
 -- a row replaced by a new one
-pub replaced : (rs : List Row) (i : ℕ) (d z : Row) → i < length rs → Each rs → stands (get_or (listed rs) z.atom Open) ≡ 0
+pub replaced : (rs : List SignedAtom) (i : ℕ) (d z : SignedAtom) → i < length rs → Each rs → stands (get_or (listed rs) z.atom Open) ≡ 0
     → listed (set rs i z) ≡ set (set (listed rs) (get_or rs i d).atom Open) z.atom (signed z.sign)
 replaced [] i d z h e o = absurd (omega arith)
 replaced (r ∷ rs) zero d z h e o =
@@ -155,7 +155,7 @@ take_set_any (suc n) (x ∷ xs) zero y = refl
 take_set_any (suc n) (x ∷ xs) (suc i) y = ap (λ l. x ∷ l) (take_set_any n xs i y)
 
 -- the row at i is given up: the last row takes its place
-pub removed : (rs : List Row) (i : ℕ) (d z : Row) → Each (rs ++ (z ∷ [])) → i ≤ length rs
+pub removed : (rs : List SignedAtom) (i : ℕ) (d z : SignedAtom) → Each (rs ++ (z ∷ [])) → i ≤ length rs
     → (listed (set rs i z) ≡ set (listed (rs ++ (z ∷ []))) (get_or (rs ++ (z ∷ [])) i d).atom Open) × Each (set rs i z)
 removed rs i d z e h =
     let l = last rs z e in
@@ -186,12 +186,12 @@ cleared_opens zero (m ∷ ms) e = absurd (omega arith)
 cleared_opens (suc n) [] e = absurd (omega arith)
 cleared_opens (suc n) (m ∷ ms) e = ap (λ l. Open ∷ l) (cleared_opens n ms (omega arith))
 
-pub all_cleared : (rs : List Row) → all_open ≡ cleared (listed rs)
+pub all_cleared : (rs : List SignedAtom) → all_open ≡ cleared (listed rs)
 unfolding all_open
 all_cleared rs = cleared_opens 10240 (listed rs) (listed_length rs)
 
 -- the same, over the slots
-pub removal : (rows : List Row) (n len i : ℕ) (d : Row) → n + 1 ≡ len → len ≤ length rows → i ≤ n → Each (take len rows)
+pub removal : (rows : List SignedAtom) (n len i : ℕ) (d : SignedAtom) → n + 1 ≡ len → len ≤ length rows → i ≤ n → Each (take len rows)
     → (listed (take n (set rows i (get_or rows n d))) ≡ set (listed (take len rows)) (get_or (take len rows) i d).atom Open) × Each (take n (set rows i (get_or rows n d)))
 removal rows n len i d el h hi e =
     let z = get_or rows n d in
@@ -201,7 +201,7 @@ removal rows n len i d el h hi e =
     (ap listed s ∙ r.0 ∙ ap (λ l. set (listed l) (get_or l i d).atom Open) (sym t), subst Each (sym s) r.1)
 
 -- one row more, over the slots
-pub addition : (rows : List Row) (n : ℕ) (z : Row) → n < length rows → z.atom < 10240 → Each (take n rows) → stands (get_or (listed (take n rows)) z.atom Open) ≡ 0
+pub addition : (rows : List SignedAtom) (n : ℕ) (z : SignedAtom) → n < length rows → z.atom < 10240 → Each (take n rows) → stands (get_or (listed (take n rows)) z.atom Open) ≡ 0
     → (listed (take (n + 1) (set rows n z)) ≡ set (listed (take n rows)) z.atom (signed z.sign)) × Each (take (n + 1) (set rows n z))
 addition rows n z h hz e o =
     let t : take (n + 1) (set rows n z) ≡ take n rows ++ (z ∷ []) = take_more_set rows n z h in

@@ -1,6 +1,6 @@
 -- What a read of a row has as its default.
 use Rattle.std.proofs.Common.{false}
-use Rattle.tables.specs.declared.row.Row.{Row}
+use Rattle.syntax.specs.declared.types.SignedAtom.{SignedAtom}
 
-abbrev pub no_row : Row
+abbrev pub no_row : SignedAtom
 no_row = record { atom = 0; sign = false }

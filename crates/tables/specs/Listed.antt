@@ -2,7 +2,7 @@
 use Rattle.std.specs.Prelude.{◌≡◌, List, [], ◌∷◌, length, replicate, slice_set}
 use Rattle.syntax.specs.declared.types.Mark.{Mark}
 use Rattle.syntax.specs.declared.types.Mark.TheVariants.{Open}
-use Rattle.tables.specs.declared.row.Row.{Row}
+use Rattle.syntax.specs.declared.types.SignedAtom.{SignedAtom}
 use Rattle.tables.specs.Marks.{signed, standing}
 
 -- every atom open
@@ -10,10 +10,10 @@ unfoldable pub all_open : List Mark
 all_open = replicate 10240 Open
 
 -- every atom open but those of the rows, which have their row's sign
-abbrev pub listed : List Row → List Mark
+abbrev pub listed : List SignedAtom → List Mark
 listed [] = all_open
 listed (r ∷ rs) = slice_set (listed rs) r.atom (signed r.sign)
 
 -- as many atoms stand as there are rows: so no atom has two rows, and each is below the reach
-abbrev pub Each : List Row → Type 0
+abbrev pub Each : List SignedAtom → Type 0
 Each rs = standing (listed rs) ≡ length rs

@@ -5,7 +5,7 @@ use Rattle.std.proofs.lemmas.List.{length-take-le}
 use Rattle.std.proofs.lemmas.List.FromFn.{length-map-range_with_len}
 use Rattle.syntax.specs.declared.types.Mark.{Mark}
 use Rattle.syntax.specs.declared.types.Mark.TheVariants.{Open, Yes, No}
-use Rattle.tables.specs.declared.row.Row.{Row}
+use Rattle.syntax.specs.declared.types.SignedAtom.{SignedAtom}
 use Rattle.tables.specs.Marks.{stands, standing}
 use Rattle.tables.specs.Packed.{mark_at, packed_marks, packed_reach}
 use Rattle.tables.specs.Listed.{listed, Each}
@@ -26,5 +26,5 @@ packed_length bs = length-map-range_with_len (mark_at bs) 0 (packed_reach bs)
 pub packed_within : (bs : List ℕ) → standing (packed_marks bs) ≤ packed_reach bs
 packed_within bs = omega (arith, standing_le (packed_marks bs), packed_length bs)
 
-pub listed_within : (rows : List Row) (len : ℕ) → len ≤ length rows → Each (take len rows) → standing (listed (take len rows)) ≤ length rows
+pub listed_within : (rows : List SignedAtom) (len : ℕ) → len ≤ length rows → Each (take len rows) → standing (listed (take len rows)) ≤ length rows
 listed_within rows len h each = omega (arith, length-take-le len rows h)

@@ -3,7 +3,6 @@
 pub mod counting;
 pub mod listed;
 pub mod packed;
-pub mod row;
 pub mod stack;
 pub mod table;
 pub mod walk;

@@ -4,15 +4,14 @@ ghost use Rattle.tables.specs.Marks.{signed, stands};
 ghost use Rattle.tables.specs.Listed.{Each, all_open, listed};
 ghost use Rattle.tables.specs.Within.{listed_within};
 
-use crate::row::Row;
 use crate::table::BranchTable;
 use std::mem;
-use syntax::types::{Mark, Refusal};
+use syntax::types::{Mark, Refusal, SignedAtom};
 
 // The first `len` rows are those of the atoms that stand.
 #[derive(Drop)]
 pub struct ListedTable<'a> {
-    rows: &'a mut [Row],
+    rows: &'a mut [SignedAtom],
     len: usize,
     ghost within: { len ≤ length rows.now },
     ghost each: { Each (take len rows.now) },
@@ -25,11 +24,11 @@ fn mark_for(sign: bool) -> Mark
 }
 
 // The place of the atom's row among the first `len`, or `len`.
-fn seek(rows: &[Row], len: usize, atom: u16) -> usize
+fn seek(rows: &[SignedAtom], len: usize, atom: u16) -> usize
     requires { len ≤ length rows.now }
     ensures within { result ≤ len }
-    ensures found { (d : Row) → result < len → (get_or rows.now result d).atom ≡ atom }
-    ensures absent { (k : ℕ) (d : Row) → k < result → (get_or rows.now k d).atom ≢ atom }
+    ensures found { (d : SignedAtom) → result < len → (get_or rows.now result d).atom ≡ atom }
+    ensures absent { (k : ℕ) (d : SignedAtom) → k < result → (get_or rows.now k d).atom ≢ atom }
 {
     for i in 0..len {
         if rows[i].atom == atom {
@@ -40,7 +39,7 @@ fn seek(rows: &[Row], len: usize, atom: u16) -> usize
 }
 
 // Adds a row for an open atom after the first `len`.
-fn add_row(rows: &mut [Row], len: usize, atom: u16, sign: bool)
+fn add_row(rows: &mut [SignedAtom], len: usize, atom: u16, sign: bool)
     requires free { len < length rows.old }
     requires near { atom < 10240 }
     requires each { Each (take len rows.old) }
@@ -48,15 +47,15 @@ fn add_row(rows: &mut [Row], len: usize, atom: u16, sign: bool)
     ensures each { Each (take (len + 1) rows.new) }
     ensures told { listed (take (len + 1) rows.new) ≡ slice_set (listed (take len rows.old)) atom (signed sign) }
 {
-    rows[len] = Row { atom, sign };
+    rows[len] = SignedAtom { atom, sign };
 }
 
 // Gives the row at a place up: the last of the first `last + 1` takes its place.
-fn remove_row(rows: &mut [Row], last: usize, at: usize, atom: u16)
+fn remove_row(rows: &mut [SignedAtom], last: usize, at: usize, atom: u16)
     requires some { last < length rows.old }
     requires at { at ≤ last }
     requires each { Each (take (last + 1) rows.old) }
-    requires here { (d : Row) → (get_or (take (last + 1) rows.old) at d).atom ≡ atom }
+    requires here { (d : SignedAtom) → (get_or (take (last + 1) rows.old) at d).atom ≡ atom }
     ensures each { Each (take last rows.new) }
     ensures untold { listed (take last rows.new) ≡ slice_set (listed (take (last + 1) rows.old)) atom Mark.Open }
 {
@@ -66,7 +65,7 @@ fn remove_row(rows: &mut [Row], last: usize, at: usize, atom: u16)
 
 impl<'a> ListedTable<'a> {
     // A clear table over the rows, which stay as they are.
-    pub fn new(rows: &'a mut [Row]) -> ListedTable<'a>
+    pub fn new(rows: &'a mut [SignedAtom]) -> ListedTable<'a>
         ensures clear { listed (take result.len result.rows.now) ≡ all_open }
         ensures rows { result.rows.now ≡ rows.old }
         ensures loan { result.rows.ghost_name ≡ rows.entry.ghost_name }
@@ -76,7 +75,7 @@ impl<'a> ListedTable<'a> {
 
     fn place(&self, atom: u16) -> usize
         ensures within { result ≤ self.now.len }
-        ensures found { (d : Row) → result < self.now.len → (get_or (take self.now.len self.now.rows.now) result d).atom ≡ atom }
+        ensures found { (d : SignedAtom) → result < self.now.len → (get_or (take self.now.len self.now.rows.now) result d).atom ≡ atom }
         ensures absent { result ≡ self.now.len → stands (slice_index_or (listed (take self.now.len self.now.rows.now)) atom Mark.Open) ≡ 0 }
     {
         seek(self.rows, self.len, atom)

@@ -8,7 +8,7 @@ ghost use Rattle.tables_tests.specs.Told.{count_told};
 use crate::walk::tell_and_untell;
 use tables::listed::ListedTable;
 use tables::packed::PackedTable;
-use tables::row::Row;
+use syntax::types::SignedAtom;
 use tables::stack::Stack;
 
 // Tells the atoms in the bytes as far as it goes and takes them back: the bytes are clear then, and those
@@ -24,7 +24,7 @@ pub fn try_bytes(bytes: &mut [u8], slots: &mut [u16], atoms: &[u16]) -> usize
 }
 
 // The same in rows.
-pub fn try_rows(rows: &mut [Row], slots: &mut [u16], atoms: &[u16]) -> usize
+pub fn try_rows(rows: &mut [SignedAtom], slots: &mut [u16], atoms: &[u16]) -> usize
     ensures { result ≡ count_told (length rows.old) true (length slots.old) all_open atoms.now }
 {
     let mut table = ListedTable::new(rows);

@@ -7,11 +7,10 @@ pub mod walk;
 mod tests {
     use crate::lent::{try_bytes, try_rows};
     use std::test::Fail;
-    use syntax::types::{Mark, Refusal};
+    use syntax::types::{Mark, Refusal, SignedAtom};
     use tables::listed::ListedTable;
     use tables::packed::PackedTable;
-    use tables::row::Row;
-    use tables::stack::{Choice, Stack};
+        use tables::stack::{Choice, Stack};
     use tables::table::BranchTable;
 
     // A call with what it answers: a cause, or for an ask 0 open, 1 yes, 2 no.
@@ -114,7 +113,7 @@ mod tests {
 
     #[test]
     fn no_rows(rt: HostRuntime) {
-        let mut rows: [Row; 0] = [];
+        let mut rows: [SignedAtom; 0] = [];
         let mut table = ListedTable::new(&mut rows);
         let steps = [
             Step::Reach(10240),
@@ -129,7 +128,7 @@ mod tests {
 
     #[test]
     fn one_row(rt: HostRuntime) {
-        let mut rows = [Row {
+        let mut rows = [SignedAtom {
             atom: 7,
             sign: true,
         }];
@@ -199,7 +198,7 @@ mod tests {
         assert_eq!(rt; try_bytes(&mut bytes, &mut slots, &[3, 11, 3, 2]), 2);
         assert_eq!(rt; bytes[0], 0);
         assert_eq!(rt; try_bytes(&mut bytes, &mut slots, &[0, 1, 2, 3, 4]), 4);
-        let mut rows = [Row {
+        let mut rows = [SignedAtom {
             atom: 1,
             sign: true,
         }; 2];

@@ -2,7 +2,7 @@ use Rattle.std.proofs.Common.{◌≡◌, ◌+◌, List, [], get_or, take, sym, a
 use Rattle.syntax.specs.declared.counts.Counts.{Counts}
 use Rattle.syntax.specs.Lawful.{LawfulLiteral}
 use Rattle.books.proofs.Readings.{literal_of_list, literal_lawful, clause_lawful}
-use Rattle.tableau.specs.declared.types.SignedAtom.{SignedAtom}
+use Rattle.syntax.specs.declared.types.SignedAtom.{SignedAtom}
 use Rattle.tableau.specs.declared.types.Status.{Status}
 use Rattle.tableau.specs.Signs.{signed_atom_of, instance}
 use Rattle.tableau.specs.Instances.{names_of, Below}

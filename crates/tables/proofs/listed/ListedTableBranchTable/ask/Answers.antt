@@ -1,6 +1,6 @@
 use Rattle.std.proofs.Common.{◌<◌, get_or, take, sym, ap, ◌∙◌, arith}
 use Rattle.std.proofs.lemmas.List.{get_or-take, length-take-le}
-use Rattle.tables.specs.declared.row.Row.{Row}
+use Rattle.syntax.specs.declared.types.SignedAtom.{SignedAtom}
 use Rattle.syntax.specs.declared.types.Mark.TheVariants.{Open}
 use Rattle.tables.specs.Marks.{signed}
 use Rattle.tables.specs.Listed.{listed}
@@ -31,5 +31,5 @@ returns c =
     let here = sign_at rs at no_row (omega arith) s.each in
     let which = c.place-at.ensures.found no_row h in (
       near_ask (listed rs) c.args.atom (omega (arith, listed_length rs)),
-      c.mark_for.ensures ∙ sym (ap (λ (r : Row). signed r.sign) (get_or-take s.len s.rows.now at no_row h)) ∙ sym here ∙ ap (λ k. get_or (listed rs) k Open) which,
+      c.mark_for.ensures ∙ sym (ap (λ (r : SignedAtom). signed r.sign) (get_or-take s.len s.rows.now at no_row h)) ∙ sym here ∙ ap (λ k. get_or (listed rs) k Open) which,
     )
