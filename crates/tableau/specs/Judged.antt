@@ -12,6 +12,7 @@ use Rattle.semantics.specs.Branch.{Clash, Fulfilled, ClassTable, own}
 use Rattle.semantics.specs.Judgements.{Consistent, Contradictory}
 use Rattle.tables.specs.declared.table.BranchTable.{Ghosts as TableGhosts}
 use Rattle.tables.specs.declared.stack.Choice.{Choice}
+use Rattle.tables.specs.declared.space.Space.{Space}
 use Rattle.tables.specs.Memory.{Loan}
 use Rattle.tables.specs.Marks.{cleared}
 use Rattle.tables.specs.Counting.{OpenFrom}
@@ -32,6 +33,10 @@ pub record Lent : Type 0 where
 abbrev pub lent : {T : Type 0} → TableGhosts T → T → List ℕ → List Choice → List ℕ → Lent
 lent t table trail choices model =
     record { marks = t.marks table; room = t.room table; loan = t.loan table; trail = trail; choices = choices; model = model }
+
+-- the same of a space and the model memory
+abbrev pub lent_in : {T : Type 0} → TableGhosts T → Space T → List ℕ → Lent
+lent_in t space model = lent t space.table.now space.trail.now space.choices.now model
 
 -- why judging is refused, if it is, the topmost cause first: the table's reach or capacity is below A; a stack has memory for fewer
 -- than A entries; the model memory is shorter than A

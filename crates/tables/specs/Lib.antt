@@ -7,3 +7,4 @@ pub mod Items
 pub mod Counting
 pub mod Walks
 pub mod Within
+pub mod Spaces

@@ -3,6 +3,7 @@
 pub mod counting;
 pub mod listed;
 pub mod packed;
+pub mod space;
 pub mod stack;
 pub mod table;
 pub mod walk;
