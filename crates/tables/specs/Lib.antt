@@ -8,3 +8,4 @@ pub mod Counting
 pub mod Walks
 pub mod Within
 pub mod Spaces
+pub mod Lent
