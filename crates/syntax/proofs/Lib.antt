@@ -1,3 +1,4 @@
 pub mod Laws
 pub mod Marked
+pub mod Counted
 pub mod Bytes

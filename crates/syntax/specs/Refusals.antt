@@ -1,5 +1,5 @@
 -- Every refusal, case by case: its number, and the values that it carries.
-use Rattle.std.specs.Prelude.{ℕ, Bool, cond, List, [], ◌∷◌, Some, None, Option}
+use Rattle.std.specs.Prelude.{◌≡◌, ℕ, Bool, cond, List, [], ◌∷◌, Some, None, Ok, Err, Option, Result}
 use Rattle.syntax.specs.declared.types.Place.{Place}
 use Rattle.syntax.specs.declared.types.Refusal.{Refusal}
 use Rattle.syntax.specs.declared.types.Refusal.TheVariants.{Limits, LimitsAt, Unlawful, BookFull, BookFullAt, StrikeAbove, CountsDiffer, TableSmall, StackSmall, MemoryShort, NotInterpretation, TooMany, FileLength, BlockCheck, BlockLayout, TextFault, BeyondReach, Standing, TableFull, NotStanding}
@@ -58,3 +58,13 @@ values NotStanding = []
 abbrev pub first_of : List (Bool × Refusal) → Option Refusal
 first_of [] = None
 first_of (x ∷ rest) = cond x.0 (Some x.1) (first_of rest)
+
+-- the answer by the topmost cause: done where there is none
+abbrev pub answer : Option Refusal → Result Unit Refusal
+answer None = Ok tt
+answer (Some e) = Err e
+
+-- a refused call leaves x as it was
+abbrev pub UnlessRefused : {A X : Type 0} → X → X → Result A Refusal → Type 0
+UnlessRefused x y (Ok _) = Unit {0}
+UnlessRefused x y (Err _) = y ≡ x

@@ -4,7 +4,7 @@ ghost use Rattle.std.specs.Prelude.{◌≤◌};
 pub mod limits;
 
 // The limits are part of the type. `Counts::new` is the one way to make a value.
-#[derive(Clone, Copy)]
+#[derive(Clone, Copy, PartialEq)]
 pub struct Counts {
     names: u8,
     properties: u8,

@@ -6,4 +6,5 @@ pub mod counts;
 pub mod lawful;
 pub mod numbers;
 pub mod refusals;
+pub mod signs;
 pub mod types;

@@ -36,6 +36,19 @@ pub fn ground_atom(atom: Atom) -> Option<Ground>
     }
 }
 
+// The atom as one that may have variables.
+impl From<Ground> for Atom {
+    ghost from_gives = { λ g a. a ≡ atom_of g };
+
+    fn from(g: Ground) -> Atom {
+        match g {
+            Ground::Same(a, b) => Atom::Same(Term::Name(a), Term::Name(b)),
+            Ground::Prop(p, a) => Atom::Prop(p, Term::Name(a)),
+            Ground::Rel(r, a, b) => Atom::Rel(r, Term::Name(a), Term::Name(b)),
+        }
+    }
+}
+
 // The number of a ground atom; nothing where the book has no such atom.
 pub fn atom_number(counts: Counts, g: Ground) -> Option<usize>
     ensures { Numbered counts g result }
