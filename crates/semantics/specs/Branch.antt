@@ -7,6 +7,7 @@ use Rattle.syntax.specs.declared.types.Mark.{Mark}
 use Rattle.syntax.specs.declared.types.Mark.TheVariants.{Open, Yes, No}
 use Rattle.syntax.specs.declared.counts.Counts.{Counts}
 use Rattle.syntax.specs.Numbers.{number_of, LawfulGround}
+pub use Rattle.syntax.specs.Signs.{signed}
 use Rattle.semantics.specs.Meaning.{Clause, ◌∈◌, Interpretation, value, Assignment, Assigns, ground_of, Model}
 
 -- the marks of the ground atoms, each at its number; an atom past the end is open
@@ -15,10 +16,6 @@ Branch = List Mark
 
 abbrev pub mark_at : Counts → Branch → Ground → Mark
 mark_at c marks g = slice_index_or marks (number_of c g) Open
-
-abbrev pub signed : Bool → Mark
-signed true = Yes
-signed false = No
 
 -- the branch with one atom told
 abbrev pub tell : Counts → Branch → Ground → Bool → Branch
