@@ -1,4 +1,5 @@
 pub mod Lists
+pub mod Rest
 pub mod Calls
 pub mod Stored
 pub mod Working

@@ -1,11 +1,13 @@
 // What every kind of book is.
-ghost use Rattle.std.specs.Prelude.{◌≡◌, ◌≤◌, List, length};
+ghost use Rattle.std.specs.Prelude.{◌≡◌, ◌≤◌, List, [], length, slice_index_or};
 ghost use Rattle.std.specs.List.{AllByRecursion};
 ghost use Rattle.syntax.specs.declared.types.Literal.{Literal as Lit};
 ghost use Rattle.syntax.specs.declared.counts.Counts.{Counts as Cnt};
 ghost use Rattle.syntax.specs.Lawful.{Lawful};
 ghost use Rattle.books.specs.Lists.{size_at_index, literal_at};
+ghost use Rattle.books.specs.Rest.{literals_left};
 
+use crate::literals::Literals;
 use syntax::counts::Counts;
 use syntax::types::Literal;
 
@@ -35,6 +37,18 @@ pub trait Book {
     // Literal j of clause i; nothing beyond the list or the clause.
     fn literal(&self, i: usize, j: usize) -> Option<Literal>
         ensures { result ≡ literal_at (clauses self.now) i j };
+
+    // The literals of clause i, in order; none beyond the list.
+    final fn literals_of(&self, i: usize) -> Literals<'_, Self>
+        ensures all { literals_left clauses result ≡ slice_index_or (clauses self.now) i [] }
+        ensures few { length (literals_left clauses result) ≤ 8 }
+    {
+        Literals {
+            book: self,
+            clause: i,
+            next: 0,
+        }
+    }
 }
 
 // A book that is lent is a book.

@@ -3,5 +3,6 @@
 pub mod book;
 pub mod clause;
 pub mod laws;
+pub mod literals;
 pub mod supposition;
 pub mod working;

@@ -1,5 +1,5 @@
 // Tests of the crate books, and code that is generic over books of any kind.
-ghost use Rattle.std.specs.Prelude.{◌≡◌, [], ◌∷◌, ◌++◌, IfOk, Decides};
+ghost use Rattle.std.specs.Prelude.{◌≡◌, [], ◌∷◌, ◌++◌, IfOk, Decides, length, filter, slice_index_or, false};
 ghost use Rattle.std.specs.List.{AllByRecursion};
 ghost use Rattle.syntax.specs.Lawful.{GroundLiteral};
 ghost use Rattle.books.specs.Lists.{literal_at};
@@ -37,15 +37,32 @@ fn is_ground<B: Book>(book: &B) -> bool
     ensures { Decides result (AllByRecursion (AllByRecursion (GroundLiteral (B.counts book.now))) (B.clauses book.now)) }
 {
     for i in 0..book.len() {
-        let mut j = 0;
-        while let Some(l) = book.literal(i, j) {
+        for l in book.literals_of(i) {
             if !is_ground_literal(book.counts(), l) {
                 return false;
             }
-            j += 1;
         }
     }
     true
+}
+
+// Whether some literal of clause i says yes.
+fn has_positive<B: Book>(book: &B, i: usize) -> bool
+    ensures { Decides result (¬ AllByRecursion (λ l. l.sign ≡ false) (slice_index_or (B.clauses book.now) i [])) }
+{
+    for l in book.literals_of(i) {
+        if l.sign {
+            return true;
+        }
+    }
+    false
+}
+
+// How many literals of clause i say yes.
+fn positives<B: Book>(book: &B, i: usize) -> usize
+    ensures { result ≡ length (filter (λ l. l.sign) (slice_index_or (B.clauses book.now) i [])) }
+{
+    book.literals_of(i).filter(|l| l.sign).count()
 }
 
 // The property p of the name a, and of the variable 1.
@@ -132,5 +149,20 @@ fn piles(rt: HostRuntime) -> Result<(), Fail> {
     assert_eq!(rt; is_ground(&layer), false);
     book.strike(0)?;
     assert_eq!(rt; is_ground(&Supposition::over(&book)), true);
+    Ok(())
+}
+
+#[test]
+fn signs(rt: HostRuntime) -> Result<(), Fail> {
+    let mut book = WorkingBook::new();
+    book.open(4, 1, 0)?;
+    book.enter(&[of_variable(0), of_name(0, 0), of_variable(0), of_name(0, 1)])?;
+    book.enter(&[of_variable(0)])?;
+    assert!(rt; has_positive(&book, 0));
+    assert_eq!(rt; positives(&book, 0), 2);
+    assert!(rt; !has_positive(&book, 1));
+    assert_eq!(rt; positives(&book, 1), 0);
+    assert!(rt; !has_positive(&book, 2));
+    assert_eq!(rt; book.literals_of(2).count(), 0);
     Ok(())
 }
