@@ -1,4 +1,5 @@
 pub mod Laws
 pub mod Marked
 pub mod Counted
+pub mod Shown
 pub mod Bytes

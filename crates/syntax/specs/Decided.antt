@@ -12,15 +12,15 @@ use Rattle.syntax.specs.declared.types.Literal.{Literal}
 use Rattle.syntax.specs.declared.counts.Counts.{Counts}
 use Rattle.syntax.specs.Lawful.{LawfulTerm, GroundTerm, AtomBy, LawfulLiteral, GroundLiteral, lawful_term, ground_term, atom_by, lawful_literal, ground_literal, lawful_literals}
 
-term_decides : (c : Counts) (t : Term) → Decides (lawful_term c t) (LawfulTerm c t)
+pub term_decides : (c : Counts) (t : Term) → Decides (lawful_term c t) (LawfulTerm c t)
 term_decides c (Name a) = Decides-ltb a c.names
 term_decides c (Var v) = Decides-ltb v 4
 
-name_decides : (c : Counts) (t : Term) → Decides (ground_term c t) (GroundTerm c t)
+pub name_decides : (c : Counts) (t : Term) → Decides (ground_term c t) (GroundTerm c t)
 name_decides c (Name a) = Decides-ltb a c.names
 name_decides c (Var v) = (false≢true, λ z. absurd z)
 
-atom_decides : (c : Counts) (q : Term → Bool) (Q : Term → Type 0) → ((t : Term) → Decides (q t) (Q t)) → (a : Atom) → Decides (atom_by c q a) (AtomBy c Q a)
+pub atom_decides : (c : Counts) (q : Term → Bool) (Q : Term → Type 0) → ((t : Term) → Decides (q t) (Q t)) → (a : Atom) → Decides (atom_by c q a) (AtomBy c Q a)
 atom_decides c q Q each (Same t u) = Decides-and (q t) (q u) (each t) (each u)
 atom_decides c q Q each (Prop p t) = Decides-and _ (q t) (Decides-ltb p c.properties) (each t)
 atom_decides c q Q each (Rel r t u) = Decides-and _ _ (Decides-ltb r c.relations) (Decides-and (q t) (q u) (each t) (each u))

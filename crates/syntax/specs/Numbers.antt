@@ -1,7 +1,8 @@
 -- The numbers of the ground atoms, and the laws that everything above uses in place of the formula.
-use Rattle.std.specs.Prelude.{◌≡◌, ℕ, ◌+◌, ◌*◌, ◌<◌, ◌≤◌, Some, None, Option}
+use Rattle.std.specs.Prelude.{◌≡◌, ℕ, ◌+◌, ◌*◌, ◌<◌, ◌≤◌, Some, None, Ok, Err, Option, Result, ◌≢◌}
 use Rattle.syntax.specs.declared.types.Ground.{Ground}
 use Rattle.syntax.specs.declared.types.Ground.TheVariants.{Same, Prop, Rel}
+use Rattle.syntax.specs.declared.types.HasVariable.{HasVariable}
 use Rattle.syntax.specs.declared.types.Term.TheVariants.{Name}
 use Rattle.syntax.specs.declared.types.Atom.{Atom}
 use Rattle.syntax.specs.declared.types.Atom.TheVariants.{Same as Same', Prop as Prop', Rel as Rel'}
@@ -23,6 +24,11 @@ abbrev pub atom_of : Ground → Atom
 atom_of (Same a b) = Same' (Name a) (Name b)
 atom_of (Prop p a) = Prop' p (Name a)
 atom_of (Rel r a b) = Rel' r (Name a) (Name b)
+
+-- an atom is read as a ground atom exactly when it is one
+abbrev pub Grounded : Atom → Result Ground HasVariable → Type 0
+Grounded a (Ok g) = atom_of g ≡ a
+Grounded a (Err _) = (g : Ground) → atom_of g ≢ a
 
 -- a ground atom of the book: its symbol and names lie below the counts
 abbrev pub LawfulGround : Counts → Ground → Type 0

@@ -1,5 +1,6 @@
 -- Every refusal, case by case: its number, and the values that it carries.
-use Rattle.std.specs.Prelude.{◌≡◌, ℕ, Bool, cond, List, [], ◌∷◌, Some, None, Ok, Err, Option, Result}
+use Rattle.std.specs.Prelude.{◌≡◌, ℕ, Bool, cond, List, [], ◌∷◌, ◌++◌, Some, None, Ok, Err, Option, Result}
+use Rattle.std.specs.Fmt.{decimal}
 use Rattle.syntax.specs.declared.types.Place.{Place}
 use Rattle.syntax.specs.declared.types.Refusal.{Refusal}
 use Rattle.syntax.specs.declared.types.Refusal.TheVariants.{Limits, LimitsAt, Unlawful, BookFull, BookFullAt, StrikeAbove, CountsDiffer, TableSmall, StackSmall, MemoryShort, NotInterpretation, TooMany, FileLength, BlockCheck, BlockLayout, TextFault, BeyondReach, Standing, TableFull, NotStanding}
@@ -53,6 +54,17 @@ values BeyondReach = []
 values Standing = []
 values TableFull = []
 values NotStanding = []
+
+-- the place among the values; line 0 and word 0 where there is none
+abbrev pub place_of : List ℕ → Place
+place_of (line ∷ word ∷ []) = record { line = line; word = word }
+place_of [] = record { line = 0; word = 0 }
+place_of (b ∷ []) = record { line = 0; word = 0 }
+place_of (a ∷ b ∷ c ∷ rest) = record { line = 0; word = 0 }
+
+-- what is printed: the number, the line and the word, with a blank between
+abbrev pub shown : Refusal → List ℕ
+shown e = let p = place_of (values e) in decimal (cause e) ++ 32 ∷ (decimal p.line ++ 32 ∷ decimal p.word)
 
 -- of several causes the topmost counts: the first whose test is true
 abbrev pub first_of : List (Bool × Refusal) → Option Refusal

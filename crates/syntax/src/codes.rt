@@ -43,15 +43,15 @@ fn decode_atom(counts: Counts, kind: u8, symbol: u8, first: u8, second: u8) -> O
 pub fn decode_literal(counts: Counts, bytes: &[u8]) -> Option<Literal>
     ensures { Decoded counts bytes.now result }
 {
-    let [sign, kind, symbol, first, second] = bytes else {
+    let &[sign, kind, symbol, first, second] = bytes else {
         return None;
     };
-    let sign = match *sign {
+    let sign = match sign {
         0 => false,
         1 => true,
         _ => return None,
     };
-    let atom = decode_atom(counts, *kind, *symbol, *first, *second)?;
+    let atom = decode_atom(counts, kind, symbol, first, second)?;
     Some(Literal { sign, atom })
 }
 
@@ -72,7 +72,7 @@ pub fn encode_literal(counts: Counts, l: Literal) -> Option<[u8; 5]>
     if !is_lawful_literal(counts, l) {
         return None;
     }
-    let sign = if l.sign { 1 } else { 0 };
+    let sign = u8::from(l.sign);
     Some(match l.atom {
         Atom::Same(t, u) => [sign, 0, 0, encode_term(counts, t), encode_term(counts, u)],
         Atom::Prop(p, t) => [sign, 1, p, encode_term(counts, t), 0],

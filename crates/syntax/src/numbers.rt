@@ -1,9 +1,10 @@
 // The numbers of the ground atoms.
-ghost use Rattle.std.specs.Prelude.{◌≡◌, ℕ, ◌+◌, ◌<◌, ◌≤◌, Decides, MatchOption, ◌≢◌};
-ghost use Rattle.syntax.specs.Numbers.{atoms, atom_of, LawfulGround, Numbered, Found, Few, BelowAll, Apart, Onto};
+ghost use Rattle.std.specs.Prelude.{◌≡◌, ℕ, ◌+◌, ◌<◌, ◌≤◌};
+ghost use Rattle.syntax.specs.Numbers.{atoms, atom_of, Grounded, Numbered, Found, Few, BelowAll, Apart, Onto};
 
 use crate::counts::Counts;
-use crate::types::{Atom, Ground, Term};
+use crate::lawful::is_ground_atom;
+use crate::types::{Atom, Ground, HasVariable, Term};
 
 // How many ground atoms there are: A.
 pub fn atom_count(counts: Counts) -> usize
@@ -14,25 +15,19 @@ pub fn atom_count(counts: Counts) -> usize
     n * n + counts.properties() as usize * n + counts.relations() as usize * n * n
 }
 
-fn is_lawful_ground(counts: Counts, g: Ground) -> bool
-    ensures { Decides result (LawfulGround counts g) }
-{
-    match g {
-        Ground::Same(a, b) => a < counts.names() && b < counts.names(),
-        Ground::Prop(p, a) => p < counts.properties() && a < counts.names(),
-        Ground::Rel(r, a, b) => r < counts.relations() && a < counts.names() && b < counts.names(),
-    }
-}
+// The atom as one over names alone; an error where it has a variable.
+impl TryFrom<Atom> for Ground {
+    type Error = HasVariable;
 
-// The atom as one over names alone; nothing where it has a variable.
-pub fn ground_atom(atom: Atom) -> Option<Ground>
-    ensures { MatchOption result ((g : Ground) → atom_of g ≢ atom) (λ g. atom_of g ≡ atom) }
-{
-    match atom {
-        Atom::Same(Term::Name(a), Term::Name(b)) => Some(Ground::Same(a, b)),
-        Atom::Prop(p, Term::Name(a)) => Some(Ground::Prop(p, a)),
-        Atom::Rel(r, Term::Name(a), Term::Name(b)) => Some(Ground::Rel(r, a, b)),
-        _ => None,
+    ghost try_from_gives = { Grounded };
+
+    fn try_from(atom: Atom) -> Result<Ground, HasVariable> {
+        match atom {
+            Atom::Same(Term::Name(a), Term::Name(b)) => Ok(Ground::Same(a, b)),
+            Atom::Prop(p, Term::Name(a)) => Ok(Ground::Prop(p, a)),
+            Atom::Rel(r, Term::Name(a), Term::Name(b)) => Ok(Ground::Rel(r, a, b)),
+            _ => Err(HasVariable),
+        }
     }
 }
 
@@ -53,7 +48,7 @@ impl From<Ground> for Atom {
 pub fn atom_number(counts: Counts, g: Ground) -> Option<usize>
     ensures { Numbered counts g result }
 {
-    if !is_lawful_ground(counts, g) {
+    if !is_ground_atom(counts, Atom::from(g)) {
         return None;
     }
     let n = counts.names() as usize;

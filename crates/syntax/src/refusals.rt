@@ -1,8 +1,9 @@
 // What a refusal says of itself.
-ghost use Rattle.std.specs.Prelude.{◌≡◌, length, MatchOption, ◌≢◌};
-ghost use Rattle.syntax.specs.Refusals.{cause, values, line_word};
+ghost use Rattle.std.specs.Prelude.{◌≡◌, length, Some, MatchOption, ◌≢◌};
+ghost use Rattle.syntax.specs.Refusals.{cause, values, line_word, shown};
 
 use crate::types::{Place, Refusal};
+use std::fmt;
 
 impl Refusal {
     // The number of the cause.
@@ -10,11 +11,9 @@ impl Refusal {
         ensures { result ≡ cause self }
     {
         match self {
-            Refusal::Limits => 1,
-            Refusal::LimitsAt(_) => 1,
+            Refusal::Limits | Refusal::LimitsAt(_) => 1,
             Refusal::Unlawful => 2,
-            Refusal::BookFull => 3,
-            Refusal::BookFullAt(_) => 3,
+            Refusal::BookFull | Refusal::BookFullAt(_) => 3,
             Refusal::StrikeAbove => 4,
             Refusal::CountsDiffer => 5,
             Refusal::TableSmall => 6,
@@ -38,10 +37,20 @@ impl Refusal {
         ensures { MatchOption result (length (values self) ≢ 2) (λ p. values self ≡ line_word p) }
     {
         match self {
-            Refusal::LimitsAt(place) => Some(place),
-            Refusal::BookFullAt(place) => Some(place),
-            Refusal::TextFault(place) => Some(place),
+            Refusal::LimitsAt(place) | Refusal::BookFullAt(place) | Refusal::TextFault(place) => {
+                Some(place)
+            }
             _ => None,
         }
+    }
+}
+
+// The number, the line and the word; line and word are 0 where it has no place.
+impl fmt::Display for Refusal {
+    ghost output = { λ e. Some (shown e) };
+
+    fn fmt<W: fmt::Write>(&self, f: &mut fmt::Formatter<W>) -> fmt::Result {
+        let place = self.place().unwrap_or_default();
+        write!(f, "{} {} {}", self.cause(), place.line, place.word)
     }
 }

@@ -31,6 +31,10 @@ pub enum Ground {
     Rel(u8, u8, u8),
 }
 
+// Why an atom is not one over names alone.
+#[derive(Clone, Copy, PartialEq, Debug)]
+pub struct HasVariable;
+
 // The number of a ground atom, and a sign.
 #[derive(Clone, Copy, PartialEq)]
 pub struct SignedAtom {
@@ -48,7 +52,7 @@ pub enum Mark {
 
 // A word of a text: its line and its place in the line, both from 1. Both are 0 where the text as a
 // whole is meant.
-#[derive(Clone, Copy, PartialEq, Debug)]
+#[derive(Clone, Copy, PartialEq, Default, Debug)]
 pub struct Place {
     pub line: usize,
     pub word: usize,

@@ -9,14 +9,14 @@ impl Counts {
     pub fn new(names: usize, properties: usize, relations: usize) -> Result<Counts, Refusal>
         ensures { Counted names properties relations result }
     {
-        if names < 1 || names > 32 || properties > 32 || relations > 8 {
-            return Err(Refusal::Limits);
+        match (names, properties, relations) {
+            (1..=32, 0..=32, 0..=8) => Ok(Counts {
+                names: names as u8,
+                properties: properties as u8,
+                relations: relations as u8,
+            }),
+            _ => Err(Refusal::Limits),
         }
-        Ok(Counts {
-            names: names as u8,
-            properties: properties as u8,
-            relations: relations as u8,
-        })
     }
 
     pub fn names(self) -> u8
