@@ -15,24 +15,14 @@ pub fn take_in(text: &[u8]) -> Result<Intake, Refusal>
     ensures { TakenIn text.now result }
 {
     if text.len() > 32768 {
-        return Err(Refusal::TextFault(Place { line: 0, word: 0 }));
+        return Err(Refusal::TextFault(Place::default()));
     }
-    let mut lines: usize = 0;
-    let mut begun = false;
-    for b in text {
-        if *b == 10 {
-            lines += 1;
-            begun = false;
-        } else {
-            begun = true;
-        }
-    }
-    if begun {
-        lines += 1;
-    }
+    // Each end of a line ends one, and one more is begun where the last byte is no end.
+    let ends = text.iter().filter(|b| **b == b'\n').count();
+    let begun = text.last().is_some_and(|b| *b != b'\n');
     Ok(Intake {
         bytes: text.len(),
-        lines,
+        lines: ends + usize::from(begun),
     })
 }
 

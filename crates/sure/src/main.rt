@@ -3,15 +3,6 @@
 use listing::take_in;
 use std::io;
 use std::io::Read;
-use syntax::types::Refusal;
-
-fn print_fault(rt: &HostRuntime, refusal: Refusal) -> io::Result<()> {
-    let cause = refusal.cause();
-    match refusal.place() {
-        Some(place) => println!(rt; "fault {cause} {} {}", place.line, place.word),
-        None => println!(rt; "fault {cause} 0 0"),
-    }
-}
 
 fn main(rt: HostRuntime) -> io::Result<()> {
     let mut text = Vec::new(rt.alloc());
@@ -23,6 +14,6 @@ fn main(rt: HostRuntime) -> io::Result<()> {
                 intake.bytes, intake.lines
             )
         }
-        Err(refusal) => print_fault(&rt, refusal),
+        Err(refusal) => println!(rt; "fault {refusal}"),
     }
 }

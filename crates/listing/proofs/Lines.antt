@@ -1,0 +1,41 @@
+-- Lines counted by their ends.
+use Rattle.std.proofs.Common.{◌≡◌, ℕ, ◌+◌, ◌-◌, Bool, true, false, not, cond, List, [], ◌∷◌, length, count_by, ◌==◌, Option, None, Some, slice_get, refl, ap, ◌∙◌, arith}
+use Rattle.std.proofs.lemmas.List.Recursion.{is_count_by}
+use Rattle.listing.specs.Intake.{lines, lines_left}
+
+abbrev ends : List ℕ → ℕ
+ends [] = 0
+ends (b ∷ rest) = cond (b == 10) (1 + ends rest) (ends rest)
+
+-- whether a line is begun at the end
+abbrev left_open : Bool → List ℕ → Bool
+left_open begun [] = begun
+left_open begun (b ∷ rest) = left_open (not (b == 10)) rest
+
+step : (t : Bool) (rest : List ℕ) → ((begun : Bool) → ends rest + cond (left_open begun rest) 1 0 ≡ lines_left begun rest) → cond t (1 + ends rest) (ends rest) + cond (left_open (not t) rest) 1 0 ≡ cond t (1 + lines_left false rest) (lines_left true rest)
+step true rest h = omega (arith, h false)
+step false rest h = omega (arith, h true)
+
+by_ends : (begun : Bool) (text : List ℕ) → ends text + cond (left_open begun text) 1 0 ≡ lines_left begun text
+by_ends begun [] = omega arith
+by_ends begun (b ∷ rest) = step (b == 10) rest (λ x. by_ends x rest)
+
+-- the last byte says it
+abbrev pub open_by : Option ℕ → Bool
+open_by None = false
+open_by (Some b) = not (b == 10)
+
+last_byte : (begun : Bool) (b : ℕ) (rest : List ℕ) → left_open begun (b ∷ rest) ≡ open_by (slice_get (b ∷ rest) (length rest))
+last_byte begun b [] = refl
+last_byte begun b (d ∷ rest) = last_byte (not (b == 10)) d rest
+
+last_open : (text : List ℕ) → left_open false text ≡ open_by (slice_get text (length text - 1))
+last_open [] = refl
+last_open (b ∷ rest) =
+    let at : length rest ≡ length (b ∷ rest) - 1 = omega arith in
+    last_byte false b rest ∙ ap (λ (i : ℕ). open_by (slice_get (b ∷ rest) i)) at
+
+pub lines_counted : (text : List ℕ) → count_by (λ (b : ℕ). b == 10) text + cond (open_by (slice_get text (length text - 1))) 1 0 ≡ lines text
+lines_counted text =
+    let more = ap {B = ℕ} (λ (o : Bool). cond o 1 0) (last_open text) in
+    omega (arith, more, by_ends false text, is_count_by ends (λ (b : ℕ). b == 10) refl (λ _ _. refl) text)
