@@ -14,6 +14,21 @@ pub packed_at : (bs : List ℕ) (k : ℕ) → k < packed_reach bs → get_or (pa
 unfolding packed_marks
 packed_at bs k h = get_or-map-range_with_len (mark_at bs) 0 (packed_reach bs) k k Open h (omega arith)
 
+-- four marks to a byte: two bits each
+pub two_bits : (j : ℕ) → j < 4 → 2 ^ (2 * j) ≡ 4 ^ j
+two_bits zero h = refl
+two_bits (suc zero) h = refl
+two_bits (suc (suc zero)) h = refl
+two_bits (suc (suc (suc zero))) h = refl
+two_bits (suc (suc (suc (suc j)))) h = absurd (omega arith)
+
+pub weight_small : (j : ℕ) → j < 4 → 1 * 2 ^ (2 * j) % 256 ≡ 4 ^ j
+weight_small zero h = refl
+weight_small (suc zero) h = refl
+weight_small (suc (suc zero)) h = refl
+weight_small (suc (suc (suc zero))) h = refl
+weight_small (suc (suc (suc (suc j)))) h = absurd (omega arith)
+
 -- a byte with a digit changed
 pub digit_here : (b j v : ℕ) → b < 256 → j < 4 → v < 4 → digit (b - digit b j * 4 ^ j + v * 4 ^ j) j ≡ v
 digit_here b zero v hb h hv = omega arith

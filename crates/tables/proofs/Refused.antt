@@ -34,6 +34,10 @@ module _ (ms : List Mark) (a : ℕ) where
   pub near_ask : a < length ms → ask_refusal ms a ≡ None
   near_ask h = cond-false _ _ _ (lt-leb _ _ h)
 
+  -- an ask that is not refused
+  pub ask_done : ask_refusal ms a ≡ None → a < length ms
+  ask_done h = leb-false _ _ (passed (leb (length ms) a) BeyondReach None h).0
+
   pub far_untell : length ms ≤ a → untell_refusal ms a ≡ Some BeyondReach
   far_untell h = cond-true _ _ _ (le-leb _ _ h)
 

@@ -1,14 +1,16 @@
 -- What a change of the rows does to the marks.
-use Rattle.std.proofs.Common.{◌≡◌, ℕ, zero, suc, ◌+◌, ◌<◌, ◌≤◌, Bool, ◌≢◌, List, [], ◌∷◌, ◌++◌, length, get_or, take, set, replicate, sym, refl, ap, ◌∙◌, subst, inl, inr, le_of_suc-le-suc, arith}
+use Rattle.std.proofs.Common.{◌≡◌, ℕ, zero, suc, ◌+◌, ◌<◌, ◌≤◌, Bool, true, is_some, ◌≢◌, List, [], ◌∷◌, ◌++◌, length, get_or, take, set, replicate, Some, None, Ok, Option, sym, refl, ap, ◌∙◌, subst, inl, inr, true≢false, le_of_suc-le-suc, arith}
+use Rattle.std.specs.Prelude.{All, HoldsAt, MatchOption}
 use Rattle.std.proofs.lemmas.List.{length-set, length-replicate, length_push, get_or-set_same, get_or-set_other, set-set, set_comm, set_past, get_or_past, get_or_append_left, get_or_push, take_more, take_more_set, length-take-le}
 use Rattle.std.proofs.lemmas.Bool.{cases_lt}
 use Rattle.syntax.specs.declared.types.SignedAtom.{SignedAtom}
 use Rattle.syntax.specs.declared.types.Mark.{Mark}
 use Rattle.syntax.specs.declared.types.Mark.TheVariants.{Open}
 use Rattle.tables.specs.Marks.{stands, standing, signed, cleared}
-use Rattle.tables.specs.Listed.{all_open, listed, Each}
+use Rattle.tables.specs.Listed.{all_open, listed, Each, Placed}
 use Rattle.tables.proofs.Counts.{standing_set, stands_signed, set_open}
 use Rattle.tables.proofs.Refused.{open_from}
+use Rattle.tables.proofs.Zero.{no_row}
 
 standing_replicate : (n : ℕ) → standing (replicate n Open) ≡ 0
 standing_replicate zero = refl
@@ -84,6 +86,21 @@ absent [] a none = none_open a
 absent (r ∷ rs) a none =
     ap stands (get_or-set_other (listed rs) r.atom a (signed r.sign) Open (λ p. none 0 r (omega arith) (sym p)))
     ∙ absent rs a (λ k d h. none (suc k) d (omega arith))
+
+-- what a search of the rows finds
+pub placed : (rs : List SignedAtom) (a : ℕ) (o : Option ℕ) → Each rs → a < 10240
+    → MatchOption o (All (λ (r : SignedAtom). r.atom ≢ a) rs) (λ i. (i < length rs) × HoldsAt (λ (r : SignedAtom). r.atom ≡ a) rs i) → Placed rs a (Ok o)
+placed rs a None e h none = (omega (arith, listed_length rs), open_from _ (absent rs a none))
+placed rs a (Some i) e h (lt, at) =
+    (omega (arith, listed_length rs), lt, λ d. (at d, ap (λ k. get_or (listed rs) k Open) (sym (at d)) ∙ sign_at rs i d lt e))
+
+pub placed_some : (rs : List SignedAtom) (a : ℕ) (o : Option ℕ) → Placed rs a (Ok o) → is_some o ≡ true → (a < length (listed rs)) × (stands (get_or (listed rs) a Open) ≡ 1)
+placed_some rs a None p h = absurd (true≢false (sym h))
+placed_some rs a (Some i) p h = (p.0, ap stands (p.2 no_row).1 ∙ stands_signed (get_or rs i no_row).sign)
+
+pub placed_near : (rs : List SignedAtom) (a : ℕ) (o : Option ℕ) → Placed rs a (Ok o) → a < 10240
+placed_near rs a None p = omega (arith, p.0, listed_length rs)
+placed_near rs a (Some i) p = omega (arith, p.0, listed_length rs)
 
 -- one more row, at the end
 pub push : (rs : List SignedAtom) (z : SignedAtom) → Each rs → stands (get_or (listed rs) z.atom Open) ≡ 0 → listed (rs ++ (z ∷ [])) ≡ set (listed rs) z.atom (signed z.sign)

@@ -1,12 +1,15 @@
 // A branch table that lists the atoms that stand.
-ghost use Rattle.std.specs.Prelude.{◌≡◌, ℕ, ◌+◌, ◌<◌, ◌≤◌, [], length, get_or, take, ◌≢◌, slice_index_or, slice_set};
+ghost use Rattle.std.specs.Prelude.{◌≡◌, ◌+◌, ◌<◌, ◌≤◌, [], length, slice_index_or, take, slice_set, All, HoldsAt, MatchOption, ◌≢◌};
+ghost use Rattle.syntax.specs.declared.types.SignedAtom.{SignedAtom};
 ghost use Rattle.tables.specs.Marks.{signed, stands};
-ghost use Rattle.tables.specs.Listed.{Each, all_open, listed};
+ghost use Rattle.tables.specs.Listed.{Each, Placed, all_open, listed};
 ghost use Rattle.tables.specs.Within.{listed_within};
 
 use crate::table::BranchTable;
-use std::mem;
 use syntax::types::{Mark, Refusal, SignedAtom};
+
+// How many atoms a listed table has a mark for.
+const REACH: usize = 10240;
 
 // The first `len` rows are those of the atoms that stand.
 #[derive(Drop)]
@@ -17,25 +20,17 @@ pub struct ListedTable<'a> {
     ghost each: { Each (take len rows.now) },
 }
 
-fn mark_for(sign: bool) -> Mark
+pub(crate) fn mark_for(sign: bool) -> Mark
     ensures { result ≡ signed sign }
 {
     if sign { Mark::Yes } else { Mark::No }
 }
 
-// The place of the atom's row among the first `len`, or `len`.
-fn seek(rows: &[SignedAtom], len: usize, atom: u16) -> usize
-    requires { len ≤ length rows.now }
-    ensures within { result ≤ len }
-    ensures found { (d : SignedAtom) → result < len → (get_or rows.now result d).atom ≡ atom }
-    ensures absent { (k : ℕ) (d : SignedAtom) → k < result → (get_or rows.now k d).atom ≢ atom }
+// The place of a row with the atom.
+fn seek(rows: &[SignedAtom], atom: usize) -> Option<usize>
+    ensures { MatchOption result (All (λ r. r.atom ≢ atom) rows.now) (λ at. (at < length rows.now) × HoldsAt (λ r. r.atom ≡ atom) rows.now at) }
 {
-    for i in 0..len {
-        if rows[i].atom == atom {
-            return i;
-        }
-    }
-    len
+    rows.iter().position(|row| row.atom as usize == atom)
 }
 
 // Adds a row for an open atom after the first `len`.
@@ -51,16 +46,14 @@ fn add_row(rows: &mut [SignedAtom], len: usize, atom: u16, sign: bool)
 }
 
 // Gives the row at a place up: the last of the first `last + 1` takes its place.
-fn remove_row(rows: &mut [SignedAtom], last: usize, at: usize, atom: u16)
+fn remove_row(rows: &mut [SignedAtom], last: usize, at: usize)
     requires some { last < length rows.old }
     requires at { at ≤ last }
     requires each { Each (take (last + 1) rows.old) }
-    requires here { (d : SignedAtom) → (get_or (take (last + 1) rows.old) at d).atom ≡ atom }
     ensures each { Each (take last rows.new) }
-    ensures untold { listed (take last rows.new) ≡ slice_set (listed (take (last + 1) rows.old)) atom Mark.Open }
+    ensures untold { (d : SignedAtom) → listed (take last rows.new) ≡ slice_set (listed (take (last + 1) rows.old)) (slice_index_or (take (last + 1) rows.old) at d).atom Mark.Open }
 {
-    let row = rows[last];
-    rows[at] = row;
+    rows[at] = rows[last];
 }
 
 impl<'a> ListedTable<'a> {
@@ -73,12 +66,14 @@ impl<'a> ListedTable<'a> {
         ListedTable { rows, len: 0 }
     }
 
-    fn place(&self, atom: u16) -> usize
-        ensures within { result ≤ self.now.len }
-        ensures found { (d : SignedAtom) → result < self.now.len → (get_or (take self.now.len self.now.rows.now) result d).atom ≡ atom }
-        ensures absent { result ≡ self.now.len → stands (slice_index_or (listed (take self.now.len self.now.rows.now)) atom Mark.Open) ≡ 0 }
+    // The place of an atom's row, if it has one.
+    fn place(&self, atom: usize) -> Result<Option<usize>, Refusal>
+        ensures { Placed (take self.now.len self.now.rows.now) atom result }
     {
-        seek(self.rows, self.len, atom)
+        if atom >= REACH {
+            return Err(Refusal::BeyondReach);
+        }
+        Ok(seek(&self.rows[..self.len], atom))
     }
 }
 
@@ -92,7 +87,7 @@ impl<'a> BranchTable for ListedTable<'a> {
     ghost loan = { λ t. record { name = t.rows.ghost_name; spare = [] } };
 
     fn reach(&self) -> usize {
-        10240
+        REACH
     }
 
     fn capacity(&self) -> usize {
@@ -100,43 +95,28 @@ impl<'a> BranchTable for ListedTable<'a> {
     }
 
     fn ask(&self, atom: usize) -> Result<Mark, Refusal> {
-        if atom >= 10240 {
-            return Err(Refusal::BeyondReach);
-        }
-        let at = self.place(atom as u16);
-        if at == self.len {
-            return Ok(Mark::Open);
-        }
-        Ok(mark_for(self.rows[at].sign))
+        Ok(match self.place(atom)? {
+            Some(at) => mark_for(self.rows[at].sign),
+            None => Mark::Open,
+        })
     }
 
     fn tell(&mut self, atom: usize, sign: bool) -> Result<(), Refusal> {
-        if atom >= 10240 {
-            return Err(Refusal::BeyondReach);
-        }
-        if self.place(atom as u16) < self.len {
+        if self.place(atom)?.is_some() {
             return Err(Refusal::Standing);
         }
         if self.len == self.rows.len() {
             return Err(Refusal::TableFull);
         }
-        let ListedTable { rows, len } = mem::replace(self, ListedTable::new(&mut []));
-        add_row(rows, len, atom as u16, sign);
-        *self = ListedTable { rows, len: len + 1 };
+        add_row(self.rows, self.len, atom as u16, sign);
+        self.len += 1;
         Ok(())
     }
 
     fn untell(&mut self, atom: usize) -> Result<(), Refusal> {
-        if atom >= 10240 {
-            return Err(Refusal::BeyondReach);
-        }
-        let at = self.place(atom as u16);
-        if at == self.len {
-            return Err(Refusal::NotStanding);
-        }
-        let ListedTable { rows, len } = mem::replace(self, ListedTable::new(&mut []));
-        remove_row(rows, len - 1, at, atom as u16);
-        *self = ListedTable { rows, len: len - 1 };
+        let at = self.place(atom)?.ok_or(Refusal::NotStanding)?;
+        remove_row(self.rows, self.len - 1, at);
+        self.len -= 1;
         Ok(())
     }
 

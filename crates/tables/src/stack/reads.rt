@@ -5,13 +5,6 @@ ghost use Rattle.tables.specs.Items.{items, slots_of, loan_of};
 
 use crate::stack::Stack;
 
-fn slot_at<T: Copy>(slots: &[T], at: usize) -> T
-    requires { at < length slots.now }
-    ensures { result ≡ slice_index_or slots.now at result }
-{
-    slots[at]
-}
-
 impl<'a, T: Copy> Stack<'a, T> {
     // An empty stack over the slots, whatever they hold.
     pub fn new(slots: &'a mut [T]) -> Stack<'a, T>
@@ -48,9 +41,6 @@ impl<'a, T: Copy> Stack<'a, T> {
     pub fn at(&self, i: usize) -> Option<T>
         ensures { Placed (items self.now) i result }
     {
-        if i >= self.len {
-            return None;
-        }
-        Some(slot_at(self.slots, i))
+        self.slots[..self.len].get(i).copied()
     }
 }

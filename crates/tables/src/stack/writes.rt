@@ -13,11 +13,10 @@ impl<'a, T: Copy> Stack<'a, T> {
         ensures slots { slots_of self.new ≡ slots_of self.old }
         ensures loan { loan_of self.new ≡ loan_of self.old }
     {
-        if self.len >= self.slots.len() {
+        let Some(slot) = self.slots.get_mut(self.len) else {
             return false;
-        }
-        let at = self.len;
-        self.slots[at] = x;
+        };
+        *slot = x;
         self.len += 1;
         true
     }
@@ -28,10 +27,7 @@ impl<'a, T: Copy> Stack<'a, T> {
         ensures slots { slots_of self.new ≡ slots_of self.old }
         ensures loan { loan_of self.new ≡ loan_of self.old }
     {
-        if self.len == 0 {
-            return None;
-        }
-        let at = self.len - 1;
+        let at = self.len.checked_sub(1)?;
         self.len = at;
         Some(self.slots[at])
     }
@@ -42,8 +38,6 @@ impl<'a, T: Copy> Stack<'a, T> {
         ensures slots { slots_of self.new ≡ slots_of self.old }
         ensures loan { loan_of self.new ≡ loan_of self.old }
     {
-        if height < self.len {
-            self.len = height;
-        }
+        self.len = self.len.min(height);
     }
 }
