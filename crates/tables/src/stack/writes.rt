@@ -13,10 +13,10 @@ impl<'a, T: Copy> Stack<'a, T> {
         ensures slots { slots_of self.new ≡ slots_of self.old }
         ensures loan { loan_of self.new ≡ loan_of self.old }
     {
-        let Some(slot) = self.slots.get_mut(self.len) else {
+        if self.is_full() {
             return false;
-        };
-        *slot = x;
+        }
+        self.slots[self.len] = x;
         self.len += 1;
         true
     }
