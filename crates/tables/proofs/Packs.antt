@@ -1,12 +1,12 @@
 -- Four marks to a byte: lengths, reads and writes.
-use Rattle.std.proofs.Common.{◌≡◌, ℕ, zero, suc, ◌+◌, ◌-◌, ◌*◌, ◌/◌, ◌%◌, ◌^◌, ◌<◌, ◌≤◌, min, cond, eqb, List, [], ◌∷◌, length, get_or, drop, set, replicate, sym, refl, ap, ◌∙◌, inl, inr, le_of_suc-le-suc, add-one, arith}
+use Rattle.std.proofs.Common.{◌≡◌, ℕ, zero, suc, ◌+◌, ◌-◌, ◌*◌, ◌/◌, ◌%◌, ◌^◌, ◌<◌, ◌≤◌, min, List, [], ◌∷◌, length, get_or, drop, set, replicate, sym, refl, ap, ◌∙◌, inl, inr, arith}
 use native.Mathlib.Nat.{zero-div}
 use Rattle.std.proofs.lemmas.List.{length-set, length-append, length-drop, length-replicate, get_or-set_same, get_or-set_other, get_or-replicate, get_or_append_left, ext_get_or, drop_all, drop_at}
-use Rattle.std.proofs.lemmas.Bool.{cases_eq, cases_lt, ne_eqb, cond_both}
+use Rattle.std.proofs.lemmas.Bool.{cases_eq, cases_lt}
 use Rattle.std.proofs.lemmas.List.FromFn.{get_or-map-range_with_len}
 use Rattle.syntax.specs.declared.types.Mark.{Mark}
-use Rattle.syntax.specs.declared.types.Mark.TheVariants.{Open, Yes, No}
-use Rattle.tables.specs.Marks.{cleared, stands}
+use Rattle.syntax.specs.declared.types.Mark.TheVariants.{Open}
+use Rattle.tables.specs.Marks.{cleared}
 use Rattle.tables.specs.Packed.{digit, meant, mark_at, packed_reach, packed_marks, beyond, zeroed, wiped}
 use Rattle.tables.specs.Within.{packed_length}
 
@@ -101,16 +101,6 @@ packed_set bs k b v h here other =
 zero_digit : (j : ℕ) → digit 0 j ≡ 0
 zero_digit j = ap (λ x. x % 4) (zero-div (4 ^ j))
 
--- one byte more is 0
-pub zeroed_more : (i : ℕ) (bs : List ℕ) → i < length bs → set (zeroed i bs) i 0 ≡ zeroed (i + 1) bs
-zeroed_more i bs h = rw add-one (step i bs h)
-  where
-    step : (i : ℕ) (bs : List ℕ) → i < length bs → set (zeroed i bs) i 0 ≡ zeroed (suc i) bs
-    step zero [] h = absurd (omega arith)
-    step zero (b ∷ bs) h = refl
-    step (suc i) [] h = absurd (omega arith)
-    step (suc i) (b ∷ bs) h = ap (λ l. 0 ∷ l) (step i bs (le_of_suc-le-suc h))
-
 pub wiped_length : (bs : List ℕ) → length (wiped bs) ≡ length bs
 wiped_length bs =
     let n = min (length bs) 2560 in
@@ -151,14 +141,3 @@ wiped_beyond bs = elim (cases_lt (length bs) 2560) [
       let e : min (length bs) 2560 ≡ 2560 = omega arith in
       ap (λ n. drop 2560 (zeroed n bs)) e ∙ past_zeroed 2560 bs
 ]
-
-stands_meant : (d : ℕ) → (d ≡ 0 → ⊥) → stands (meant d) ≡ 1
-stands_meant d h =
-    ap (λ b. stands (cond b Open (cond (eqb d 1) Yes No))) (ne_eqb d 0 h)
-    ∙ cond_both (eqb d 1) Yes No (λ m. stands m ≡ 1) (λ _. refl) (λ _. refl)
-
-pub stood : (m : Mark) (d : ℕ) → meant d ≡ m → (d ≡ 0 → ⊥) → stands m ≡ 1
-stood m d e h = sym (ap stands e) ∙ stands_meant d h
-
-pub lay : (m : Mark) (d : ℕ) → meant d ≡ m → d ≡ 0 → stands m ≡ 0
-lay m d e h = sym (ap stands e) ∙ ap (λ x. stands (meant x)) h

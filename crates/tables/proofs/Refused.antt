@@ -1,6 +1,6 @@
 -- When a call is refused, in facts, and what is known where it is not.
-use Rattle.std.proofs.Common.{◌≡◌, ℕ, ◌<◌, ◌≤◌, Bool, true, false, cond, eqb, leb, List, length, get_or, Some, None, Option, refl, ◌∙◌, inl, inr, arith}
-use Rattle.std.proofs.lemmas.Bool.{le-leb, lt-leb, leb-false, eq-eqb, ne_eqb, eqb-false, cond-true, cond-false, cases_eq}
+use Rattle.std.proofs.Common.{◌≡◌, ℕ, ◌<◌, Bool, true, false, cond, eqb, leb, List, length, get_or, Some, None, Option, refl, ◌∙◌, inl, inr, arith}
+use Rattle.std.proofs.lemmas.Bool.{lt-leb, leb-false, eq-eqb, ne_eqb, eqb-false, cond-true, cond-false, cases_eq}
 use Rattle.syntax.specs.declared.types.Mark.{Mark}
 use Rattle.syntax.specs.declared.types.Mark.TheVariants.{Open, Yes, No}
 use Rattle.syntax.specs.declared.types.Refusal.{Refusal}
@@ -28,21 +28,12 @@ not_zero Yes h = refl
 not_zero No h = refl
 
 module _ (ms : List Mark) (a : ℕ) where
-  pub far_ask : length ms ≤ a → ask_refusal ms a ≡ Some BeyondReach
-  far_ask h = cond-true _ _ _ (le-leb _ _ h)
-
   pub near_ask : a < length ms → ask_refusal ms a ≡ None
   near_ask h = cond-false _ _ _ (lt-leb _ _ h)
 
   -- an ask that is not refused
   pub ask_done : ask_refusal ms a ≡ None → a < length ms
   ask_done h = leb-false _ _ (passed (leb (length ms) a) BeyondReach None h).0
-
-  pub far_untell : length ms ≤ a → untell_refusal ms a ≡ Some BeyondReach
-  far_untell h = cond-true _ _ _ (le-leb _ _ h)
-
-  pub open_untell : a < length ms → stands (get_or ms a Open) ≡ 0 → untell_refusal ms a ≡ Some NotStanding
-  open_untell h o = cond-false _ _ _ (lt-leb _ _ h) ∙ cond-true _ _ _ (eq-eqb _ _ o)
 
   pub done_untell : a < length ms → stands (get_or ms a Open) ≡ 1 → untell_refusal ms a ≡ None
   done_untell h u = cond-false _ _ _ (lt-leb _ _ h) ∙ cond-false _ _ _ (ne_eqb (stands (get_or ms a Open)) 0 (λ (z : stands (get_or ms a Open) ≡ 0). omega arith))
@@ -62,16 +53,8 @@ module _ (ms : List Mark) (a : ℕ) where
   ]
 
   module _ (room : ℕ) where
-    pub far_tell : length ms ≤ a → tell_refusal ms room a ≡ Some BeyondReach
-    far_tell h = cond-true _ _ _ (le-leb _ _ h)
-
     pub up_tell : a < length ms → stands (get_or ms a Open) ≡ 1 → tell_refusal ms room a ≡ Some Standing
     up_tell h u = cond-false _ _ _ (lt-leb _ _ h) ∙ cond-true _ _ _ (eq-eqb _ _ u)
-
-    pub full_tell : a < length ms → stands (get_or ms a Open) ≡ 0 → room ≤ standing ms → tell_refusal ms room a ≡ Some TableFull
-    full_tell h o f =
-        cond-false _ _ _ (lt-leb _ _ h) ∙ cond-false _ _ _ (ne_eqb (stands (get_or ms a Open)) 1 (λ (z : stands (get_or ms a Open) ≡ 1). omega arith))
-        ∙ cond-true _ _ _ (le-leb _ _ f)
 
     pub done_tell : a < length ms → stands (get_or ms a Open) ≡ 0 → standing ms < room → tell_refusal ms room a ≡ None
     done_tell h o f =

@@ -1,6 +1,6 @@
 -- Atoms taken off a trail from the top.
-use Rattle.std.proofs.Common.{◌≡◌, ℕ, ◌+◌, ◌<◌, ◌≤◌, min, List, [], ◌∷◌, ◌++◌, length, get_or, take, drop, set, Ok, Err, Result, sym, ap, ◌∙◌, inl, inr, arith}
-use Rattle.std.proofs.lemmas.List.{take_all, drop_all, take_more, drop_more, length_push, same_from_push, set_past}
+use Rattle.std.proofs.Common.{◌≡◌, ℕ, ◌+◌, ◌<◌, ◌≤◌, List, [], ◌∷◌, ◌++◌, length, get_or, take, drop, set, Ok, Err, Result, sym, ap, ◌∙◌, inl, inr, arith}
+use Rattle.std.proofs.lemmas.List.{take_more, drop_more, length_push, same_from_push, set_past}
 use Rattle.std.proofs.lemmas.Bool.{cases_lt}
 use Rattle.syntax.specs.declared.types.Mark.{Mark}
 use Rattle.syntax.specs.declared.types.Mark.TheVariants.{Open}
@@ -25,14 +25,3 @@ pop_step xs is ys x h e p =
     let h' : length ys < length xs = omega arith in
     let two = same_from_push ys (take (length ys) xs) x (get_or xs (length ys) 0) (sym p ∙ e ∙ ap (λ k. take k xs) n ∙ take_more xs (length ys) 0 h') in
     (n, two.0, drop_more xs (length ys) 0 h' ∙ ap (λ k. k ∷ drop (length ys + 1) xs) (sym two.1) ∙ ap (λ k. x ∷ drop k xs) (sym n))
-
--- the front that is left at the end
-pub ends : (xs is : List ℕ) (height : ℕ) → length is ≤ length xs → is ≡ take (length is) xs → min height (length xs) ≤ length is → length is ≤ height
-    → (is ≡ take height xs) × (drop (length is) xs ≡ drop height xs)
-ends xs is height h e m l = elim (cases_lt (length is) height) [
-  | inl lt ↦
-      let a : length xs ≤ length is = omega arith in
-      let b : length xs ≤ height = omega arith in
-      (e ∙ take_all (length is) xs a ∙ sym (take_all height xs b), drop_all (length is) xs a ∙ sym (drop_all height xs b))
-  | inr ge ↦ let q : length is ≡ height = omega arith in (e ∙ ap (λ k. take k xs) q, ap (λ k. drop k xs) q)
-]

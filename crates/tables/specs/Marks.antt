@@ -1,10 +1,11 @@
 -- What the calls of a branch table answer, and what they do to the marks of its atoms.
-use Rattle.std.specs.Prelude.{◌≡◌, ℕ, ◌+◌, Bool, true, false, List, [], ◌∷◌, map, length, Some, None, Ok, Err, Option, Result, ◌==◌, nat_le, slice_index_or, slice_set}
+use Rattle.std.specs.Prelude.{◌≡◌, ℕ, ◌+◌, Bool, List, [], ◌∷◌, map, length, Some, None, Ok, Err, Option, Result, ◌==◌, nat_le, slice_index_or, slice_set}
 use Rattle.syntax.specs.declared.types.Mark.{Mark}
 use Rattle.syntax.specs.declared.types.Mark.TheVariants.{Open, Yes, No}
 use Rattle.syntax.specs.declared.types.Refusal.{Refusal}
 use Rattle.syntax.specs.declared.types.Refusal.TheVariants.{BeyondReach, Standing, TableFull, NotStanding}
 use Rattle.syntax.specs.Refusals.{first_of}
+pub use Rattle.syntax.specs.Signs.{signed}
 
 -- 1 where the atom stands, 0 where it is open
 abbrev pub stands : Mark → ℕ
@@ -16,11 +17,6 @@ stands No = 1
 abbrev pub standing : List Mark → ℕ
 standing [] = 0
 standing (m ∷ ms) = stands m + standing ms
-
--- the mark of an atom that is told with a sign
-abbrev pub signed : Bool → Mark
-signed true = Yes
-signed false = No
 
 -- as many marks, all open
 abbrev pub cleared : List Mark → List Mark

@@ -20,12 +20,6 @@ pub struct ListedTable<'a> {
     ghost each: { Each (take len rows.now) },
 }
 
-pub(crate) fn mark_for(sign: bool) -> Mark
-    ensures { result ≡ signed sign }
-{
-    if sign { Mark::Yes } else { Mark::No }
-}
-
 // The place of a row with the atom.
 fn seek(rows: &[SignedAtom], atom: usize) -> Option<usize>
     ensures { MatchOption result (All (λ r. r.atom ≢ atom) rows.now) (λ at. (at < length rows.now) × HoldsAt (λ r. r.atom ≡ atom) rows.now at) }
@@ -96,7 +90,7 @@ impl<'a> BranchTable for ListedTable<'a> {
 
     fn ask(&self, atom: usize) -> Result<Mark, Refusal> {
         Ok(match self.place(atom)? {
-            Some(at) => mark_for(self.rows[at].sign),
+            Some(at) => Mark::from(self.rows[at].sign),
             None => Mark::Open,
         })
     }

@@ -4,7 +4,6 @@ ghost use Rattle.tables.specs.Marks.{signed};
 ghost use Rattle.tables.specs.Packed.{digit, meant, packed_marks, packed_reach, beyond, wiped};
 ghost use Rattle.tables.specs.Within.{packed_within};
 
-use crate::listed::mark_for;
 use crate::table::BranchTable;
 use syntax::types::{Mark, Refusal};
 
@@ -123,7 +122,7 @@ impl<'a> BranchTable for PackedTable<'a> {
         if self.ask(atom)? != Mark::Open {
             return Err(Refusal::Standing);
         }
-        put_mark(self.bytes, atom, mark_for(sign));
+        put_mark(self.bytes, atom, Mark::from(sign));
         Ok(())
     }
 

@@ -1,6 +1,7 @@
 // What a call is lent to work with.
 ghost use Rattle.std.specs.Prelude.{◌≡◌, length};
-ghost use Rattle.tables.specs.Lent.{table_refusal, answer};
+ghost use Rattle.syntax.specs.Refusals.{answer};
+ghost use Rattle.tables.specs.Lent.{table_refusal};
 
 use crate::stack::Choice;
 use crate::table::BranchTable;

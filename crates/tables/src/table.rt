@@ -1,8 +1,9 @@
 // What a branch table is: a mark for each atom below its reach, and how many may stand.
 ghost use Rattle.std.specs.Prelude.{◌≡◌, ℕ, ◌≤◌, List, length};
 ghost use Rattle.syntax.specs.declared.types.Mark.{Mark};
+ghost use Rattle.syntax.specs.Refusals.{UnlessRefused};
 ghost use Rattle.tables.specs.Marks.{Asked, Told, Untold, cleared, standing};
-ghost use Rattle.tables.specs.Memory.{Kept, Loan};
+ghost use Rattle.tables.specs.Memory.{Loan};
 
 use syntax::types::{Mark, Refusal};
 
@@ -34,14 +35,14 @@ pub trait BranchTable {
     // Gives an open atom a sign.
     fn tell(&mut self, atom: usize, sign: bool) -> Result<(), Refusal>
         ensures told { Told (marks self.old) (room self.old) atom sign (marks self.new) result }
-        ensures kept { Kept self.old self.new result }
+        ensures kept { UnlessRefused self.old self.new result }
         ensures room { room self.new ≡ room self.old }
         ensures loan { loan self.new ≡ loan self.old };
 
     // Opens an atom that stands.
     fn untell(&mut self, atom: usize) -> Result<(), Refusal>
         ensures untold { Untold (marks self.old) atom (marks self.new) result }
-        ensures kept { Kept self.old self.new result }
+        ensures kept { UnlessRefused self.old self.new result }
         ensures room { room self.new ≡ room self.old }
         ensures loan { loan self.new ≡ loan self.old };
 

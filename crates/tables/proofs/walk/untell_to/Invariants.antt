@@ -3,8 +3,8 @@ use Rattle.tables.specs.Items.{items, slots_of, loan_of}
 use Rattle.tables.specs.Walks.{opened}
 use Rattle.tables.proofs.walk.untell_to.Given as goal
 
-abbrev pub invariant-loop-trail : goal.invariant-loop-trail
-invariant-loop-trail g l =
+abbrev pub invariant-loop-atom : goal.invariant-loop-atom
+invariant-loop-atom g l =
     let t = g.T.BranchTable in
     let xs = items l.initial.trail in
     let n = length (items l.trail) in
@@ -17,5 +17,5 @@ invariant-loop-trail g l =
     × (slots_of l.trail ≡ slots_of l.initial.trail)
     × (loan_of l.trail ≡ loan_of l.initial.trail)
 
-abbrev pub decreases-loop-trail : goal.decreases-loop-trail
-decreases-loop-trail g l = length (items l.trail)
+abbrev pub decreases-loop-atom : goal.decreases-loop-atom
+decreases-loop-atom g l = length (items l.trail)

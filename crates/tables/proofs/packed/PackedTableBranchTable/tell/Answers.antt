@@ -19,5 +19,5 @@ returns-clause-told c =
     let lies : c.in_ok-ask.field-0 ≡ Open = search rules in
     let o = ap stands (sym c.in_ok-ask.ensures.1 ∙ lies) in (
       done_tell ms a (packed_reach bs) near o (omega (arith, standing_lt ms a near o, packed_length bs)),
-      c.put_mark.ensures.marks ∙ ap (set ms a) c.mark_for.ensures,
+      c.put_mark.ensures.marks ∙ ap (set ms a) c.from.ensures,
     )
