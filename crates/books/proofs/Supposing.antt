@@ -1,8 +1,10 @@
 -- A supposition's clauses by their places.
-use Rattle.std.proofs.Common.{◌≡◌, ℕ, zero, suc, ◌+◌, ◌-◌, ◌<◌, ◌≤◌, min, true, ◌⊎◌, List, [], ◌∷◌, ◌++◌, map, length, take, set, Some, None, filter, sym, refl, ap, ◌∙◌, inl, inr, le_of_suc-le-suc, not-suc-le-zero, arith}
+use Rattle.std.proofs.Common.{◌≡◌, ℕ, zero, suc, ◌+◌, ◌-◌, ◌<◌, ◌≤◌, min, Bool, true, false, ltb, ◌⊎◌, List, [], ◌∷◌, ◌++◌, map, length, Some, None, filter, sym, refl, ap, ◌∙◌, inl, inr, le_of_suc-le-suc, not-suc-le-zero, arith}
 use lib.ListN.{length-map}
+use Rattle.std.specs.Bool.{then_some}
 use Rattle.std.specs.List.{slice_get}
-use Rattle.std.proofs.lemmas.List.{take_more_set, map_push}
+use Rattle.std.proofs.lemmas.Bool.{ltb-true, ltb-false}
+use Rattle.std.proofs.lemmas.List.{map_push}
 use Rattle.syntax.specs.declared.types.Literal.{Literal}
 use Rattle.syntax.specs.declared.counts.Counts.{Counts}
 use Rattle.syntax.specs.Lawful.{ground_literal}
@@ -10,7 +12,7 @@ use Rattle.books.specs.Lists.{size_at_index, literal_at}
 use Rattle.books.specs.Layers.{laid, laid_few}
 use Rattle.books.specs.Suppositions.{unit, units}
 use Rattle.books.proofs.Filter.{kept_push}
-use Rattle.books.proofs.Laid.{laid_len, laid_more, size_above, literal_above, literal_past}
+use Rattle.books.proofs.Laid.{laid_len, laid_more, size_above, size_past, literal_above, literal_past}
 
 -- clauses of one literal each
 unit_size : (ks : List Literal) (k : ℕ) → k < length ks → size_at_index (map unit ks) k ≡ Some 1
@@ -30,19 +32,24 @@ unit_beyond (l ∷ ks) zero (suc j) h = refl
 unit_beyond (l ∷ ks) (suc k) j h = unit_beyond ks k j h
 
 -- what the code reads, where the book below answered the counts c': the literals that count
-pub kept_of : (c c' : Counts) (xs : List Literal) (n : ℕ) → c' ≡ c → filter (ground_literal c') (take (n - 0) xs) ≡ filter (ground_literal c) (take n xs)
-kept_of c c' xs n e =
-    ap (λ q. filter (ground_literal q) (take (n - 0) xs)) e ∙ ap (λ (m : ℕ). filter (ground_literal c) (take m xs)) (omega arith)
+pub kept_of : (c c' : Counts) (xs ys : List Literal) → c' ≡ c → ys ≡ xs → filter (ground_literal c') ys ≡ filter (ground_literal c) xs
+kept_of c c' xs ys e f = ap (λ q. filter (ground_literal q) ys) e ∙ ap (filter (ground_literal c)) f
 
 pub units_len : (cs : List (List Literal)) (c : Counts) (ls : List Literal) → length (laid cs (units c ls)) ≡ length cs + min (65535 - length cs) (length (filter (ground_literal c) ls))
 units_len cs c ls =
     laid_len cs (units c ls) ∙ ap (λ n. length cs + min (65535 - length cs) n) (length-map (filter (ground_literal c) ls) unit)
 
 -- above the book below, each clause has one literal
-pub one_above : (cs : List (List Literal)) (c : Counts) (ls : List Literal) (i : ℕ) → length cs ≤ 65535 → length cs ≤ i → i < length (laid cs (units c ls)) → Some 1 ≡ size_at_index (laid cs (units c ls)) i
-one_above cs c ls i f h g =
-    let e = units_len cs c ls in
-    sym (size_above cs (units c ls) i h (omega arith) ∙ unit_size (filter (ground_literal c) ls) (i - length cs) (omega arith))
+pub size_above_below : (cs : List (List Literal)) (c : Counts) (ls : List Literal) (i : ℕ) → length cs ≤ 65535 → length cs ≤ i → then_some (ltb i (length (laid cs (units c ls)))) 1 ≡ size_at_index (laid cs (units c ls)) i
+size_above_below cs c ls i f h = by (ltb i (length (laid cs (units c ls)))) refl
+  where
+    by : (t : Bool) → ltb i (length (laid cs (units c ls))) ≡ t → then_some t 1 ≡ size_at_index (laid cs (units c ls)) i
+    by true t =
+        let g = ltb-true i (length (laid cs (units c ls))) t in
+        let few = laid_few cs (units c ls) f in
+        let e = units_len cs c ls in
+        sym (size_above cs (units c ls) i h (omega arith) ∙ unit_size (filter (ground_literal c) ls) (i - length cs) (omega arith))
+    by false t = sym (size_past (laid cs (units c ls)) i (ltb-false i (length (laid cs (units c ls))) t))
 
 pub first_above : (cs : List (List Literal)) (c : Counts) (ls : List Literal) (i j : ℕ) → length cs ≤ i → i < 65535 → j ≡ 0 → slice_get (filter (ground_literal c) ls) (i - length cs) ≡ literal_at (laid cs (units c ls)) i j
 first_above cs c ls i j h g z =
@@ -54,7 +61,7 @@ none_above cs c ls i j f h (inr p) =
     sym (literal_above cs (units c ls) i j h p.0 ∙ unit_beyond (filter (ground_literal c) ls) (i - length cs) j p.1)
 
 -- one literal more
-pub units_more : (cs : List (List Literal)) (c : Counts) (ls : List Literal) (n : ℕ) (l : Literal) → n < length ls → ground_literal c l ≡ true → length (laid cs (units c (take n ls))) < 65535 → laid cs (units c (take (n + 1) (set ls n l))) ≡ laid cs (units c (take n ls)) ++ unit l ∷ []
-units_more cs c ls n l h t f =
-    ap (laid cs) (ap (units c) (take_more_set ls n l h) ∙ ap (map unit) (kept_push (ground_literal c) (take n ls) l t) ∙ map_push unit (filter (ground_literal c) (take n ls)) l) ∙
-    laid_more cs (units c (take n ls)) (unit l) f
+pub units_more : (cs : List (List Literal)) (c : Counts) (xs ys : List Literal) (l : Literal) → ys ≡ xs ++ l ∷ [] → ground_literal c l ≡ true → length (laid cs (units c xs)) < 65535 → laid cs (units c ys) ≡ laid cs (units c xs) ++ unit l ∷ []
+units_more cs c xs ys l e t f =
+    ap (λ zs. laid cs (units c zs)) e ∙ ap (laid cs) (ap (map unit) (kept_push (ground_literal c) xs l t) ∙ map_push unit (filter (ground_literal c) xs) l) ∙
+    laid_more cs (units c xs) (unit l) f

@@ -1,26 +1,37 @@
--- A clause in its place.
-use Rattle.std.specs.Prelude.{Bool, true, ◌&&◌, List, [], ◌∷◌, take, Decides, refl}
-use Rattle.std.specs.List.{AllByRecursion}
-use Rattle.std.proofs.ByRecursion.{Decides-by_and}
+-- The clauses that a working book stores.
+use Rattle.std.specs.Prelude.{List, map}
+use Rattle.std.specs.List.{AllByRecursion, AllByRecursion-prop}
+use Rattle.std.specs.Coded.{×_prop, le_prop}
+use Rattle.arrayvec.specs.ArrayVec.{ArrayVec}
+use Rattle.syntax.specs.declared.types.Term.{Term}
+use Rattle.syntax.specs.declared.types.Term.TheVariants.{Name, Var}
+use Rattle.syntax.specs.declared.types.Atom.{Atom}
+use Rattle.syntax.specs.declared.types.Atom.TheVariants.{Same, Prop, Rel}
 use Rattle.syntax.specs.declared.types.Literal.{Literal}
 use Rattle.syntax.specs.declared.counts.Counts.{Counts}
-use Rattle.syntax.specs.Lawful.{LawfulLiteral, lawful_literals}
-use Rattle.syntax.specs.Decided.{literals_decides}
-use Rattle.books.specs.declared.clause.Clause.{Clause}
+use Rattle.syntax.specs.Lawful.{Lawful, LawfulTerm, LawfulLiteral, AtomBy}
 
--- the clause that it means: its literals that count
-abbrev pub literals_of : Clause → List Literal
-literals_of x = take x.len x.literals
+-- the lists that they mean
+abbrev pub stored : ArrayVec (ArrayVec Literal) → List (List Literal)
+stored xs = map (λ x. x.items) xs.items
 
--- every literal of every clause is lawful: as a test, which a ghost field can hold, and as a fact
--- (that a clause has 1 to 8 literals is part of its type)
-abbrev pub lawful_stored : Counts → List Clause → Bool
-lawful_stored c [] = true
-lawful_stored c (x ∷ xs) = lawful_literals c (literals_of x) && lawful_stored c xs
+-- each is lawful
+abbrev pub LawfulStored : Counts → ArrayVec (ArrayVec Literal) → Type 0
+LawfulStored c xs = AllByRecursion (Lawful c) (stored xs)
 
-abbrev pub LawfulStored : Counts → List Clause → Type 0
-LawfulStored c xs = AllByRecursion (λ x. AllByRecursion (LawfulLiteral c) (literals_of x)) xs
+-- and there is one proof of that at most
+term_prop : (c : Counts) (t : Term) → IsProp (LawfulTerm c t)
+term_prop c (Name a) = le_prop
+term_prop c (Var v) = le_prop
 
-pub stored_decides : (c : Counts) (xs : List Clause) → Decides (lawful_stored c xs) (LawfulStored c xs)
-stored_decides c xs =
-    Decides-by_and (λ x. lawful_literals c (literals_of x)) (λ x. AllByRecursion (LawfulLiteral c) (literals_of x)) (lawful_stored c) (λ x. literals_decides c (literals_of x)) refl (λ _ _. refl) xs
+atom_prop : (c : Counts) (a : Atom) → IsProp (AtomBy c (LawfulTerm c) a)
+atom_prop c (Same t u) = ×_prop (term_prop c t) (term_prop c u)
+atom_prop c (Prop p t) = ×_prop le_prop (term_prop c t)
+atom_prop c (Rel r t u) = ×_prop le_prop (×_prop (term_prop c t) (term_prop c u))
+
+lawful_prop : (c : Counts) (cl : List Literal) → IsProp (Lawful c cl)
+lawful_prop c cl x y i =
+    record { some = le_prop x.some y.some i; few = le_prop x.few y.few i; each = AllByRecursion-prop (LawfulLiteral c) (λ l. atom_prop c l.atom) cl x.each y.each i }
+
+pub LawfulStored-prop : (c : Counts) (xs : ArrayVec (ArrayVec Literal)) → IsProp (LawfulStored c xs)
+LawfulStored-prop c xs = AllByRecursion-prop (Lawful c) (lawful_prop c) (stored xs)

@@ -1,5 +1,5 @@
 -- The supposition: what it means, and what its call does.
-use Rattle.std.specs.Prelude.{◌≡◌, ◌<◌, ◌≤◌, true, ◌⊎◌, List, [], ◌∷◌, ◌++◌, map, length, take, Ok, Err, filter, Result}
+use Rattle.std.specs.Prelude.{◌≡◌, ◌<◌, ◌≤◌, true, ◌⊎◌, List, [], ◌∷◌, ◌++◌, map, length, Ok, Err, filter, Result}
 use Rattle.std.proofs.Common.{arith}
 use Rattle.std.specs.List.{AllByRecursion}
 use Rattle.std.proofs.ByRecursion.{All-map, All-weaker, kept_by_passes}
@@ -22,7 +22,7 @@ units c ls = map unit (filter (ground_literal c) ls)
 
 -- the literals that a layer holds, in the order in which they were supposed
 abbrev pub own_of : {B : Type 0} → Supposition B → List Literal
-own_of s = take s.held s.literals
+own_of s = s.literals.items
 
 -- the counts that a layer means: those below
 abbrev pub counts_with : {B : Type 0} → (B → Counts) → Supposition B → Counts

@@ -1,21 +1,20 @@
 -- The working book: what it means, and what its calls do.
-use Rattle.std.specs.Prelude.{◌≡◌, ℕ, ◌<◌, ◌≤◌, ◌⊎◌, List, [], ◌∷◌, ◌++◌, map, length, take, Ok, Err, Result}
-use Rattle.std.proofs.Common.{arith, length-take}
+use Rattle.std.specs.Prelude.{◌≡◌, ℕ, ◌<◌, ◌≤◌, ◌⊎◌, List, [], ◌∷◌, ◌++◌, length, take, Ok, Err, Result}
+use Rattle.std.proofs.Common.{arith}
 use Rattle.std.proofs.lemmas.List.{length-map}
 use Rattle.std.specs.List.{AllByRecursion}
 use Rattle.syntax.specs.declared.types.Literal.{Literal}
 use Rattle.syntax.specs.declared.types.Refusal.{Refusal}
 use Rattle.syntax.specs.declared.types.Refusal.TheVariants.{Limits, Unlawful, BookFull, StrikeAbove}
 use Rattle.syntax.specs.declared.counts.Counts.{Counts}
-use Rattle.syntax.specs.Lawful.{Lawful, LawfulLiteral}
+use Rattle.syntax.specs.Lawful.{Lawful}
 use Rattle.syntax.specs.Limits.{Within, Are}
-use Rattle.books.specs.declared.clause.Clause.{Clause}
 use Rattle.books.specs.declared.working.WorkingBook.{WorkingBook}
-use Rattle.books.specs.Stored.{literals_of, LawfulStored, stored_decides}
+use Rattle.books.specs.Stored.{stored}
 
 -- the standing clauses: what was entered and not struck, in order
 abbrev pub standing_of : WorkingBook → List (List Literal)
-standing_of b = map literals_of (take b.len b.clauses)
+standing_of b = stored b.clauses
 
 -- the clauses that it means as a book: all that stand
 abbrev pub clauses_of : WorkingBook → List (List Literal)
@@ -39,16 +38,8 @@ Struck cs k (Ok _) cs' = (k ≤ length cs) × (cs' ≡ take k cs)
 Struck cs k (Err e) cs' = (length cs < k) × (e ≡ StrikeAbove) × (cs' ≡ cs)
 
 -- every clause is lawful, and there are at most 256
-one_lawful : (c : Counts) (x : Clause) → AllByRecursion (LawfulLiteral c) (literals_of x) → Lawful c (literals_of x)
-one_lawful c x h = record { some = simp length-take (omega arith); few = simp length-take (omega arith); each = h }
-
-all_lawful : (c : Counts) (xs : List Clause) → LawfulStored c xs → AllByRecursion (Lawful c) (map literals_of xs)
-all_lawful c [] h = tt
-all_lawful c (x ∷ xs) h = (one_lawful c x h.0, all_lawful c xs h.1)
-
 pub working_lawful : (b : WorkingBook) → AllByRecursion (Lawful b.counts) (clauses_of b)
-working_lawful b =
-    all_lawful b.counts (take b.len b.clauses) ((stored_decides b.counts (take b.len b.clauses)).0 b.lawful)
+working_lawful b = b.lawful
 
 pub working_few : (b : WorkingBook) → length (clauses_of b) ≤ 65535
-working_few b = simp (length-map, length-take) (omega arith)
+working_few b = simp length-map (omega (arith, b.few))

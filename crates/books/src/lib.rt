@@ -1,7 +1,6 @@
 #![tactic(auto)]
 // Books of clauses: the trait, the working book, and the supposition that is laid on any book.
 pub mod book;
-pub mod clause;
 pub mod laws;
 pub mod literals;
 pub mod supposition;

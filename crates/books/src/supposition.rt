@@ -1,7 +1,6 @@
-// A layer on any book: of 16 places the first `held` count, each a ground literal that is a clause
-// after those below.
-ghost use Rattle.std.specs.Prelude.{◌≡◌, ◌≤◌, length};
-
+// A layer on any book: at most 16 literals, each of which, where it is ground and lawful below, is a
+// clause after those below.
+use arrayvec::ArrayVec;
 use syntax::types::Literal;
 
 pub mod calls;
@@ -9,8 +8,5 @@ pub mod calls;
 #[derive(Drop)]
 pub struct Supposition<B> {
     below: B,
-    literals: [Literal; 16],
-    held: usize,
-    ghost fits: { held ≤ 16 },
-    ghost whole: { length literals ≡ 16 },
+    literals: ArrayVec<Literal, 16>,
 }

@@ -1,19 +1,18 @@
-// The working book: of 256 places the first `len` count, and each of those holds a clause that is
-// lawful at the counts.
-ghost use Rattle.std.specs.Prelude.{◌≡◌, ◌≤◌, true, length, take};
-ghost use Rattle.books.specs.Stored.{lawful_stored};
+// The working book: at most 256 clauses, each lawful at the counts.
+ghost use Rattle.std.specs.Prelude.{◌≤◌, length};
+ghost use Rattle.arrayvec.specs.ArrayVec.{array_vec_len};
+ghost use Rattle.books.specs.Stored.{LawfulStored, LawfulStored-prop};
 
-use crate::clause::Clause;
+use arrayvec::ArrayVec;
 use syntax::counts::Counts;
+use syntax::types::Literal;
 
 pub mod calls;
 
 #[derive(Drop)]
 pub struct WorkingBook {
     counts: Counts,
-    clauses: [Clause; 256],
-    len: usize,
-    ghost fits: { len ≤ 256 },
-    ghost whole: { length clauses ≡ 256 },
-    ghost lawful: { lawful_stored counts (take len clauses) ≡ true },
+    clauses: ArrayVec<ArrayVec<Literal, 8>, 256>,
+    ghost few: { array_vec_len clauses ≤ 256 },
+    ghost lawful: { LawfulStored counts clauses } by { LawfulStored-prop counts clauses },
 }

@@ -2,42 +2,35 @@
 ghost use Rattle.std.specs.Prelude.{◌≡◌, [], length, filter};
 ghost use Rattle.std.specs.List.{slice_get};
 ghost use Rattle.syntax.specs.Lawful.{ground_literal};
-ghost use Rattle.books.specs.Calls.{Kept};
+ghost use Rattle.syntax.specs.Refusals.{UnlessRefused};
 ghost use Rattle.books.specs.Suppositions.{own_of, counts_with, clauses_with, with_lawful, with_few, Supposed};
 
 use crate::book::Book;
 use crate::supposition::Supposition;
+use arrayvec::ArrayVec;
 use syntax::counts::Counts;
 use syntax::lawful::is_ground_literal;
-use syntax::types::{Atom, Literal, Refusal, Term};
+use syntax::types::{Literal, Refusal};
 
-// How many of the literals are ground and lawful at the counts.
+// Those of the literals that are ground and lawful at the counts: how many.
 fn counted(counts: Counts, literals: &[Literal]) -> usize
     ensures { result ≡ length (filter (ground_literal counts) literals.now) }
 {
-    let mut n = 0;
-    for l in literals {
-        if is_ground_literal(counts, *l) {
-            n += 1;
-        }
-    }
-    n
+    literals
+        .iter()
+        .filter(|l| is_ground_literal(counts, **l))
+        .count()
 }
 
-// Of those, the one at k; nothing beyond them.
+// And the one at k; nothing beyond them.
 fn counted_at(counts: Counts, literals: &[Literal], k: usize) -> Option<Literal>
     ensures { result ≡ slice_get (filter (ground_literal counts) literals.now) k }
 {
-    let mut left = k;
-    for x in literals {
-        if is_ground_literal(counts, *x) {
-            if left == 0 {
-                return Some(*x);
-            }
-            left -= 1;
-        }
-    }
-    None
+    literals
+        .iter()
+        .copied()
+        .filter(|l| is_ground_literal(counts, *l))
+        .nth(k)
 }
 
 impl<B: Book> Book for Supposition<B> {
@@ -55,19 +48,15 @@ impl<B: Book> Book for Supposition<B> {
 
     fn len(&self) -> usize {
         let under = self.below.len();
-        let own = counted(self.below.counts(), &self.literals[0..self.held]);
-        if own < 65535 - under {
-            under + own
-        } else {
-            65535
-        }
+        let own = counted(self.below.counts(), &self.literals);
+        under + own.min(65535 - under)
     }
 
     fn literals(&self, i: usize) -> Option<usize> {
         if i < self.below.len() {
             return self.below.literals(i);
         }
-        if i < self.len() { Some(1) } else { None }
+        (i < self.len()).then_some(1)
     }
 
     fn literal(&self, i: usize, j: usize) -> Option<Literal> {
@@ -78,7 +67,7 @@ impl<B: Book> Book for Supposition<B> {
         if i >= 65535 || j > 0 {
             return None;
         }
-        counted_at(self.below.counts(), &self.literals[0..self.held], i - under)
+        counted_at(self.below.counts(), &self.literals, i - under)
     }
 }
 
@@ -90,14 +79,9 @@ impl<B: Book> Supposition<B> {
         ensures own { own_of result ≡ [] }
         ensures clauses { clauses_with B.Book.counts B.Book.clauses result ≡ B.Book.clauses below }
     {
-        let none = Literal {
-            sign: true,
-            atom: Atom::Same(Term::Name(0), Term::Name(0)),
-        };
         Supposition {
             below,
-            literals: [none; 16],
-            held: 0,
+            literals: ArrayVec::new(),
         }
     }
 
@@ -107,17 +91,14 @@ impl<B: Book> Supposition<B> {
         ensures below { self.new.below ≡ self.old.below }
         ensures counts { counts_with B.Book.counts self.new ≡ counts_with B.Book.counts self.old }
         ensures done { Supposed (counts_with B.Book.counts self.old) (clauses_with B.Book.counts B.Book.clauses self.old) (own_of self.old) l result (clauses_with B.Book.counts B.Book.clauses self.new) (own_of self.new) }
-        ensures kept { Kept result self.old self.new }
+        ensures kept { UnlessRefused self.old self.new result }
     {
         if !is_ground_literal(self.below.counts(), l) {
             return Err(Refusal::Unlawful);
         }
-        let all = self.len();
-        if self.held == 16 || all == 65535 {
+        if self.len() == 65535 {
             return Err(Refusal::TooMany);
         }
-        self.literals[self.held] = l;
-        self.held += 1;
-        Ok(())
+        self.literals.try_push(l).map_err(|_| Refusal::TooMany)
     }
 }

@@ -1,42 +1,15 @@
 // The calls of the working book.
-ghost use Rattle.std.specs.Prelude.{◌≡◌, ◌≤◌, [], length};
+ghost use Rattle.std.specs.Prelude.{◌≡◌, []};
 ghost use Rattle.syntax.specs.Limits.{Are};
-ghost use Rattle.books.specs.Calls.{Kept};
-ghost use Rattle.books.specs.Stored.{literals_of};
+ghost use Rattle.syntax.specs.Refusals.{UnlessRefused};
 ghost use Rattle.books.specs.Working.{standing_of, clauses_of, working_lawful, working_few, Opened, Entered, Struck};
 
 use crate::book::Book;
-use crate::clause::Clause;
 use crate::working::WorkingBook;
+use arrayvec::ArrayVec;
 use syntax::counts::Counts;
 use syntax::lawful::is_lawful_clause;
-use syntax::types::{Atom, Literal, Refusal, Term};
-
-// A clause for the places that do not count.
-fn filler() -> Clause {
-    let none = Literal {
-        sign: true,
-        atom: Atom::Same(Term::Name(0), Term::Name(0)),
-    };
-    Clause {
-        literals: [none; 8],
-        len: 1,
-    }
-}
-
-// The literals as the book holds them.
-fn stored(literals: &[Literal]) -> Clause
-    requires { (1 ≤ length literals.now) × (length literals.now ≤ 8) }
-    ensures { literals_of result ≡ literals.now }
-{
-    let n = literals.len();
-    let mut held = [literals[0]; 8];
-    held[0..n].copy_from_slice(literals);
-    Clause {
-        literals: held,
-        len: n as u8,
-    }
-}
+use syntax::types::{Literal, Refusal};
 
 impl WorkingBook {
     // An empty book with the counts 1, 0, 0.
@@ -46,54 +19,43 @@ impl WorkingBook {
     {
         WorkingBook {
             counts: Counts::new(1, 0, 0).unwrap(),
-            clauses: [filler(); 256],
-            len: 0,
+            clauses: ArrayVec::new(),
         }
     }
 
     // Makes the book empty, with these counts; refused as 1 where they lie outside the limits.
     pub fn open(&mut self, names: usize, properties: usize, relations: usize) -> Result<(), Refusal>
         ensures done { Opened self.old.counts (standing_of self.old) names properties relations result self.new.counts (standing_of self.new) }
-        ensures kept { Kept result self.old self.new }
+        ensures kept { UnlessRefused self.old self.new result }
     {
-        match Counts::new(names, properties, relations) {
-            Ok(counts) => {
-                self.counts = counts;
-                self.len = 0;
-                Ok(())
-            }
-            Err(e) => Err(e),
-        }
+        self.counts = Counts::new(names, properties, relations)?;
+        self.clauses.clear();
+        Ok(())
     }
 
     // Adds a clause at the end; refused as 2 where it is unlawful, then as 3 where 256 stand.
     pub fn enter(&mut self, literals: &[Literal]) -> Result<(), Refusal>
         ensures counts { self.new.counts ≡ self.old.counts }
         ensures done { Entered self.old.counts (standing_of self.old) literals.now result (standing_of self.new) }
-        ensures kept { Kept result self.old self.new }
+        ensures kept { UnlessRefused self.old self.new result }
     {
         if !is_lawful_clause(self.counts, literals) {
             return Err(Refusal::Unlawful);
         }
-        if self.len == 256 {
-            return Err(Refusal::BookFull);
-        }
-        let made = stored(literals);
-        self.clauses[self.len] = made;
-        self.len += 1;
-        Ok(())
+        let clause = ArrayVec::try_from(literals).unwrap();
+        self.clauses.try_push(clause).map_err(|_| Refusal::BookFull)
     }
 
     // Keeps the first k clauses; refused as 4 where fewer stand.
     pub fn strike(&mut self, k: usize) -> Result<(), Refusal>
         ensures counts { self.new.counts ≡ self.old.counts }
         ensures done { Struck (standing_of self.old) k result (standing_of self.new) }
-        ensures kept { Kept result self.old self.new }
+        ensures kept { UnlessRefused self.old self.new result }
     {
-        if k > self.len {
+        if k > self.clauses.len() {
             return Err(Refusal::StrikeAbove);
         }
-        self.len = k;
+        self.clauses.truncate(k);
         Ok(())
     }
 }
@@ -112,26 +74,14 @@ impl Book for WorkingBook {
     }
 
     fn len(&self) -> usize {
-        self.len
+        self.clauses.len()
     }
 
     fn literals(&self, i: usize) -> Option<usize> {
-        if i < self.len {
-            Some(self.clauses[i].len as usize)
-        } else {
-            None
-        }
+        Some(self.clauses.get(i)?.len())
     }
 
     fn literal(&self, i: usize, j: usize) -> Option<Literal> {
-        if i >= self.len {
-            return None;
-        }
-        let clause = self.clauses[i];
-        if j < clause.len as usize {
-            Some(clause.literals[j])
-        } else {
-            None
-        }
+        self.clauses.get(i)?.get(j).copied()
     }
 }

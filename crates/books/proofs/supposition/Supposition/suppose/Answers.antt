@@ -1,5 +1,4 @@
-use Rattle.std.proofs.Common.{◌≡◌, ◌<◌, length, sym, refl, ap, ◌∙◌, subst, inl, inr, ⊎_elim, arith, length-take}
-use Rattle.std.proofs.lemmas.List.{take_more_set}
+use Rattle.std.proofs.Common.{◌<◌, length, sym, ap, ◌∙◌, subst, rules, arith}
 use Rattle.syntax.specs.declared.counts.Counts.{Counts}
 use Rattle.syntax.specs.Lawful.{GroundLiteral, ground_literal}
 use Rattle.books.specs.Layers.{laid, laid_few}
@@ -8,32 +7,14 @@ use Rattle.books.proofs.Filter.{ground_is}
 use Rattle.books.proofs.Supposing.{units_more}
 use Rattle.books.proofs.supposition.Supposition.suppose.Goals as goal
 
-pub returns-then-self-eq16 : goal.returns-then-self-eq16
-returns-then-self-eq16 g c =
-    let s = c.args.self.now in
-    let P : Counts → Type 0 = λ q. GroundLiteral q c.args.l in
-    let law = subst P c.counts.ensures (c.is_ground_literal.ensures.0 c.if-not-is_ground_literal.false) in
-    let n : length (own_of s) ≡ s.held = simp length-take (omega arith) in
-    record {
-      below = refl;
-      counts = refl;
-      done = (inr (refl, law, ⊎_elim (λ p. inl (n ∙ p)) (λ p. inr (sym c.len-all.ensures ∙ p.1)) c.then-self-eq16.either), refl, refl);
-      kept = refl;
-    }
-
-pub returns : goal.returns
-returns g c =
+pub returns-clause-done : goal.returns-clause-done
+returns-clause-done g c =
     let s = c.args.self.now in
     let b = s.below in
     let P : Counts → Type 0 = λ q. GroundLiteral q c.args.l in
     let law = subst P c.counts.ensures (c.is_ground_literal.ensures.0 c.if-not-is_ground_literal.false) in
     let test = ap (λ q. ground_literal q c.args.l) (sym c.counts.ensures) ∙ ground_is c.counts.result c.args.l _ c.is_ground_literal.ensures ∙ c.if-not-is_ground_literal.false in
     let few = laid_few (g.B.Book.clauses b) (units (g.B.Book.counts b) (own_of s)) (g.B.Book.few b) in
-    let room : length (laid (g.B.Book.clauses b) (units (g.B.Book.counts b) (own_of s))) < 65535 = omega (arith, c.len-all.ensures) in
-    let n : length (own_of s) < 16 = simp length-take (omega arith) in
-    record {
-      below = refl;
-      counts = refl;
-      done = (law, n, room, units_more (g.B.Book.clauses b) (g.B.Book.counts b) s.literals s.held c.args.l (omega arith) test room, take_more_set s.literals s.held c.args.l (omega arith));
-      kept = tt;
-    }
+    let room : length (laid (g.B.Book.clauses b) (units (g.B.Book.counts b) (own_of s))) < 65535 = omega (arith, c.len.ensures) in
+    let more = units_more (g.B.Book.clauses b) (g.B.Book.counts b) (own_of s) (own_of (record { below = b; literals = c.try_push.new.self })) c.args.l in
+    search rules

@@ -1,20 +1,24 @@
-use Rattle.std.proofs.Common.{refl, arith}
-use Rattle.books.proofs.Steps.{len_is, lawful_fewer, clauses_fewer}
+use Rattle.std.proofs.Common.{List, sym, subst, arith}
+use Rattle.std.proofs.lemmas.List.{length-map}
+use Rattle.std.specs.List.{AllByRecursion}
+use Rattle.std.proofs.ByRecursion.{All-take}
+use Rattle.syntax.specs.declared.types.Literal.{Literal}
+use Rattle.syntax.specs.Lawful.{Lawful}
+use Rattle.books.specs.Working.{standing_of}
+use Rattle.books.proofs.Steps.{stored_fewer}
 use Rattle.books.proofs.working.WorkingBook.strike.Goals as goal
-
-pub returns-then-k-self : goal.returns-then-k-self
-returns-then-k-self c = record { counts = refl; done = (omega (arith, len_is c.args.self.now), refl, refl); kept = refl }
 
 pub invariant_of-self : goal.invariant_of-self
 invariant_of-self c =
     let b = c.args.self.now in
-    record { fits = omega arith; whole = b.whole; lawful = lawful_fewer b.counts b.clauses c.args.k b.len (omega arith) b.lawful }
-
-pub returns : goal.returns
-returns c =
-    let b = c.args.self.now in
+    let Q = Lawful b.counts in
+    let P : List (List Literal) → Type 0 = λ cs. AllByRecursion Q cs in
     record {
-      counts = refl;
-      done = (omega (arith, len_is b), clauses_fewer b.clauses c.args.k b.len (omega arith));
-      kept = tt;
+      few = omega (arith, c.truncate.ensures.len, b.few);
+      lawful = subst P (sym (stored_fewer b.clauses c.truncate.new.self c.args.k c.truncate.ensures.items)) (All-take Q c.args.k (standing_of b) b.lawful);
     }
+
+pub returns-clause-done : goal.returns-clause-done
+returns-clause-done c =
+    let b = c.args.self.now in
+    (simp length-map (omega arith), stored_fewer b.clauses c.truncate.new.self c.args.k c.truncate.ensures.items)

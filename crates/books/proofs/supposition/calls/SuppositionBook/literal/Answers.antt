@@ -23,6 +23,6 @@ returns g c =
     let s = c.args.self.now in
     let b = s.below in
     let ks = filter (ground_literal (g.B.Book.counts b)) (own_of s) in
-    c.counted_at.ensures ∙ ap (λ zs. slice_get zs (c.args.i - c.len-under.result)) (kept_of (g.B.Book.counts b) c.counts.result s.literals s.held c.counts.ensures) ∙
+    c.counted_at.ensures ∙ ap (λ zs. slice_get zs (c.args.i - c.len-under.result)) (kept_of (g.B.Book.counts b) c.counts.result (own_of s) c.deref.result.now c.counts.ensures c.deref.ensures.0) ∙
     ap (λ (n : ℕ). slice_get ks (c.args.i - n)) c.len-under.ensures ∙
     first_above (g.B.Book.clauses b) (g.B.Book.counts b) (own_of s) c.args.i c.args.j (omega arith) (omega arith) (omega arith)

@@ -1,7 +1,8 @@
-use Rattle.std.proofs.Common.{sym, ◌∙◌, arith}
-use Rattle.books.specs.Suppositions.{own_of, units, clauses_with}
-use Rattle.books.proofs.Laid.{size_below, size_past}
-use Rattle.books.proofs.Supposing.{one_above}
+use Rattle.std.proofs.Common.{ℕ, sym, ap, ◌∙◌, ltb, arith}
+use Rattle.std.specs.Bool.{then_some}
+use Rattle.books.specs.Suppositions.{own_of, units}
+use Rattle.books.proofs.Laid.{size_below}
+use Rattle.books.proofs.Supposing.{size_above_below}
 use Rattle.books.proofs.supposition.calls.SuppositionBook.literals.Goals as goal
 
 pub returns-then-i-len : goal.returns-then-i-len
@@ -10,13 +11,8 @@ returns-then-i-len g c =
     let b = s.below in
     c.literals.ensures ∙ sym (size_below (g.B.Book.clauses b) (units (g.B.Book.counts b) (own_of s)) c.args.i (omega arith))
 
-pub returns-then-i-len-2 : goal.returns-then-i-len-2
-returns-then-i-len-2 g c =
+pub returns : goal.returns
+returns g c =
     let s = c.args.self.now in
     let b = s.below in
-    one_above (g.B.Book.clauses b) (g.B.Book.counts b) (own_of s) c.args.i (g.B.Book.few b) (omega arith) (omega arith)
-
-pub returns-else-i-len-2 : goal.returns-else-i-len-2
-returns-else-i-len-2 g c =
-    let s = c.args.self.now in
-    sym (size_past (clauses_with g.B.Book.counts g.B.Book.clauses s) c.args.i (omega arith))
+    c.then_some.ensures ∙ ap (λ (n : ℕ). then_some (ltb c.args.i n) 1) c.len-2.ensures ∙ size_above_below (g.B.Book.clauses b) (g.B.Book.counts b) (own_of s) c.args.i (g.B.Book.few b) (omega arith)
