@@ -12,7 +12,6 @@ ghost use Rattle.comparison.specs.Compared.{Comparable, Parts, Follows};
 use crate::words::stands_in;
 use books::book::Book;
 use books::supposition::Supposition;
-use instances::four::FourNames;
 use instances::literals::denial;
 use instances::ranges::Ranges;
 use questions::verdicts::is_consistent;
@@ -21,7 +20,7 @@ use tables::stack::Choice;
 use tables::table::BranchTable;
 
 // Supposes the denials of the literals of an instance of clause i.
-fn deny<B: Book, S: Book>(layer: &mut Supposition<B>, other: &S, i: usize, names: FourNames)
+fn deny<B: Book, S: Book>(layer: &mut Supposition<B>, other: &S, i: usize, names: [u8; 4])
     requires counts { S.Book.counts other.now ≡ counts_with B.Book.counts layer.old }
     requires own { own_of layer.old ≡ [] }
     requires few { length (clauses_with B.Book.counts B.Book.clauses layer.old) ≤ 65527 }
@@ -42,7 +41,7 @@ fn parts_at<F: Book, S: Book, T: BranchTable>(
     one: &F,
     other: &S,
     i: usize,
-    names: FourNames,
+    names: [u8; 4],
     table: &mut T,
     trail: &mut [u16],
     choices: &mut [Choice],

@@ -1,106 +1,129 @@
--- The assignments that ranges give: within them, and all of them.
-use Rattle.std.proofs.Common.{◌≡◌, ℕ, ◌+◌, ◌*◌, ◌/◌, ◌%◌, ◌<◌, ◌≤◌, true, false, ◌||◌, [], ◌∷◌, sym, refl, ap, ◌∙◌, subst, ap₂, arith}
+-- The assignments that ranges give: within them, all of them, and in order.
+use Rattle.std.proofs.Common.{◌≡◌, ℕ, zero, suc, ◌+◌, ◌*◌, ◌/◌, ◌%◌, ◌<◌, ◌≤◌, sym, ap, ◌∙◌, subst, arith}
 use lib.Arith.{digits_lt}
-use Rattle.std.proofs.lemmas.Nat.{mul-le, div-mul-add, mod-mul-add, div_below, mod_below}
-use Rattle.std.specs.List.{AllByRecursion}
-use Rattle.std.proofs.ByRecursion.{All-weaker}
-use Rattle.std.proofs.lemmas.Bool.{cond_both, or_left, or_right}
+use Rattle.std.proofs.lemmas.Nat.{mul-le, div-mul-add, mod-mul-add, div-add-mod', div_below, mod_below}
+use Rattle.std.proofs.lemmas.Bool.{cond_both}
+use Rattle.std.specs.Prelude.{slice_index}
 use Rattle.syntax.specs.declared.counts.Counts.{Counts}
-use Rattle.semantics.specs.Meaning.{Clause, Assignment}
-use Rattle.semantics.specs.Checks.{atom_use, uses, Proper}
-use Rattle.semantics.proofs.Instances.{four_below, four_at}
+use Rattle.semantics.specs.Meaning.{Clause, Assignment, four}
+use Rattle.semantics.specs.Checks.{uses, Proper}
+use Rattle.semantics.proofs.Instances.{four_at}
 use Rattle.instances.specs.declared.ranges.Ranges.{Ranges}
-use Rattle.instances.specs.Assignments.{names_of, range, size, nth_assignment, EachAssigns, EachReached}
+use Rattle.instances.specs.Assignments.{names_of, range, RunsThrough, size, nth_assignment, EachAssigns, EachReached, EachLater}
 
-pub range_some : (c : Counts) (cl : Clause) (v : ℕ) → 1 ≤ range c cl v
-range_some c cl v = cond_both (uses v cl) c.names 1 (λ n. 1 ≤ n) (λ _. c.some) (λ _. omega arith)
+pub range_within : (c : Counts) (cl : Clause) (v : ℕ) → (1 ≤ range c cl v) × (range c cl v ≤ c.names)
+range_within c cl v = cond_both (uses v cl) c.names 1 (λ n. (1 ≤ n) × (n ≤ c.names)) (λ _. (c.some, omega arith)) (λ _. (omega arith, c.some))
 
-pub range_few : (c : Counts) (cl : Clause) (v : ℕ) → range c cl v ≤ 32
-range_few c cl v = cond_both (uses v cl) c.names 1 (λ n. n ≤ 32) (λ _. c.few) (λ _. omega arith)
+-- of two numbers of two digits, by the first digits and by the last
+first_lower : {a b n i : ℕ} (j : ℕ) → a < b → i < n → a * n + i < b * n + j
+first_lower {a} {b} {n} {i} j h l = let d : a * n + i < b * n = digits_lt h l in omega arith
 
-range_names : (c : Counts) (cl : Clause) (v : ℕ) → range c cl v ≤ c.names
-range_names c cl v = cond_both (uses v cl) c.names 1 (λ n. n ≤ c.names) (λ _. omega arith) (λ _. c.some)
+last_lower : {a b i j : ℕ} (n : ℕ) → a ≡ b → i < j → a * n + i < b * n + j
+last_lower {a} {b} {i} {j} n e l = let d : a * n ≡ b * n = ap (λ m. m * n) e in omega arith
+
+small : (n m : ℕ) → n < m → n % m ≡ n
+small n m h = let e : n ≡ 0 * m + n = omega arith in ap (λ k. k % m) e ∙ mod-mul-add 0 m n h
 
 module _ (r : Ranges) where
-  pub two : r.x * r.y ≤ 1024
-  two = mul-le r.x r.y 32 32 r.fewx r.fewy
+  abbrev x : ℕ
+  x = slice_index r.most 0
 
-  pub three : r.x * r.y * r.z ≤ 32768
-  three = mul-le (r.x * r.y) r.z 1024 32 two r.fewz
+  abbrev y : ℕ
+  y = slice_index r.most 1
+
+  abbrev z : ℕ
+  z = slice_index r.most 2
+
+  abbrev w : ℕ
+  w = slice_index r.most 3
+
+  pub two : x * y ≤ 1024
+  two = mul-le x y 32 32 (r.each 0 (omega arith)).1 (r.each 1 (omega arith)).1
+
+  pub three : x * y * z ≤ 32768
+  three = mul-le (x * y) z 1024 32 two (r.each 2 (omega arith)).1
 
   pub whole : size r ≤ 1048576
-  whole = mul-le (r.x * r.y * r.z) r.w 32768 32 three r.feww
-
-  module _ (k : ℕ) (inside : k < size r) where
-    pub in_x : (nth_assignment r k).x < r.x
-    in_x =
-        div_below (k / r.w / r.z) r.y r.x r.somey
-        (div_below (k / r.w) r.z (r.x * r.y) r.somez (div_below k r.w (r.x * r.y * r.z) r.somew inside))
+  whole = mul-le (x * y * z) w 32768 32 three (r.each 3 (omega arith)).1
 
   module _ (k : ℕ) where
-    pub in_y : (nth_assignment r k).y < r.y
-    in_y = mod_below (k / r.w / r.z) r.y r.somey
+    pub within : (v : ℕ) → v < 4 → names_of (nth_assignment r k) v < slice_index r.most v
+    within zero h = mod_below (k / w / z / y) x (r.each 0 h).0
+    within (suc zero) h = mod_below (k / w / z) y (r.each 1 h).0
+    within (suc (suc zero)) h = mod_below (k / w) z (r.each 2 h).0
+    within (suc (suc (suc zero))) h = mod_below k w (r.each 3 h).0
+    within (suc (suc (suc (suc v)))) h = absurd (omega arith)
 
-    pub in_z : (nth_assignment r k).z < r.z
-    in_z = mod_below (k / r.w) r.z r.somez
+  -- the place of an assignment
+  abbrev place : Assignment → ℕ
+  place σ = ((σ 0 * y + σ 1) * z + σ 2) * w + σ 3
 
-    pub in_w : (nth_assignment r k).w < r.w
-    in_w = mod_below k r.w r.somew
+  abbrev Within : Assignment → Type 0
+  Within σ = (v : ℕ) → v < 4 → σ v < slice_index r.most v
+
+  -- the assignment at its place
+  placed : (σ : Assignment) → Within σ → (k : ℕ) × (k < size r) × ((v : ℕ) → v < 4 → names_of (nth_assignment r k) v ≡ σ v)
+  placed σ h =
+      let X = σ 0 * y + σ 1 in
+      let Y = X * z + σ 2 in
+      let K = Y * w + σ 3 in
+      let hx = h 0 (omega arith) in
+      let hy = h 1 (omega arith) in
+      let hz = h 2 (omega arith) in
+      let hw = h 3 (omega arith) in
+      let dw : K / w ≡ Y = div-mul-add Y w (σ 3) hw in
+      let dz : K / w / z ≡ X = ap (λ n. n / z) dw ∙ div-mul-add X z (σ 2) hz in
+      let dy : K / w / z / y ≡ σ 0 = ap (λ n. n / y) dz ∙ div-mul-add (σ 0) y (σ 1) hy in
+      let ex : K / w / z / y % x ≡ σ 0 = ap (λ n. n % x) dy ∙ small (σ 0) x hx in
+      let ey : K / w / z % y ≡ σ 1 = ap (λ n. n % y) dz ∙ mod-mul-add (σ 0) y (σ 1) hy in
+      let ez : K / w % z ≡ σ 2 = ap (λ n. n % z) dw ∙ mod-mul-add X z (σ 2) hz in
+      let ew : K % w ≡ σ 3 = mod-mul-add Y w (σ 3) hw in
+      let e : four (K / w / z / y % x) (K / w / z % y) (K / w % z) (K % w) ≡ four (σ 0) (σ 1) (σ 2) (σ 3) = cc in
+      (K, digits_lt (digits_lt (digits_lt hx hy) hz) hw, λ v lt. ap (λ (τ : Assignment). τ v) e ∙ four_at σ v lt)
+
+  -- the place of the k-th
+  place_of : (k : ℕ) → k < size r → place (names_of (nth_assignment r k)) ≡ k
+  place_of k h =
+      let low : k / w / z / y < x =
+      div_below (k / w / z) y x (r.each 1 (omega arith)).0
+      (div_below (k / w) z (x * y) (r.each 2 (omega arith)).0 (div_below k w (x * y * z) (r.each 3 (omega arith)).0 h)) in
+      let first : (k / w / z / y % x) * y + k / w / z % y ≡ k / w / z = ap (λ n. n * y + k / w / z % y) (small (k / w / z / y) x low) ∙ div-add-mod' (k / w / z) y in
+      let second : ((k / w / z / y % x) * y + k / w / z % y) * z + k / w % z ≡ k / w = ap (λ n. n * z + k / w % z) first ∙ div-add-mod' (k / w) z in
+      ap (λ n. n * w + k % w) second ∙ div-add-mod' k w
+
+  -- what comes before another has the lower place
+  rises : (σ τ : Assignment) → Within σ → (n : ℕ) → n < 4 → ((u : ℕ) → u < n → σ u ≡ τ u) → σ n < τ n → place σ < place τ
+  rises σ τ h zero lt alike low =
+      first_lower (τ 3) (first_lower (τ 2) (first_lower (τ 1) low (h 1 (omega arith))) (h 2 (omega arith))) (h 3 (omega arith))
+  rises σ τ h (suc zero) lt alike low =
+      first_lower (τ 3) (first_lower (τ 2) (last_lower y (alike 0 (omega arith)) low) (h 2 (omega arith))) (h 3 (omega arith))
+  rises σ τ h (suc (suc zero)) lt alike low =
+      let e0 = alike 0 (omega arith) in
+      let e1 = alike 1 (omega arith) in
+      let e : σ 0 * y + σ 1 ≡ τ 0 * y + τ 1 = cc in
+      first_lower (τ 3) (last_lower z e low) (h 3 (omega arith))
+  rises σ τ h (suc (suc (suc zero))) lt alike low =
+      let e0 = alike 0 (omega arith) in
+      let e1 = alike 1 (omega arith) in
+      let e2 = alike 2 (omega arith) in
+      let e : (σ 0 * y + σ 1) * z + σ 2 ≡ (τ 0 * y + τ 1) * z + τ 2 = cc in
+      last_lower w e low
+  rises σ τ h (suc (suc (suc (suc n)))) lt alike low = absurd (omega arith)
 
 -- the names lie below N
 pub each_assigns : EachAssigns
-each_assigns c cl r k is h =
-    let n = nth_assignment r k in
-    four_below c.names n.x n.y n.z n.w
-    (omega (arith, in_x r k h, is.x, range_names c cl 0))
-    (omega (arith, in_y r k, is.y, range_names c cl 1))
-    (omega (arith, in_z r k, is.z, range_names c cl 2))
-    (omega (arith, in_w r k, is.w, range_names c cl 3))
-
--- each four names within the ranges have a place
-placed :
-    (r : Ranges) (x y z w : ℕ) → x < r.x → y < r.y → z < r.z → w < r.w →
-    (k : ℕ) × (k < size r) × (nth_assignment r k ≡ record { x = x; y = y; z = z; w = w })
-placed r x y z w hx hy hz hw =
-    let X = x * r.y + y in
-    let Y = X * r.z + z in
-    let K = Y * r.w + w in
-    let ew : K % r.w ≡ w = mod-mul-add Y r.w w hw in
-    let dw : K / r.w ≡ Y = div-mul-add Y r.w w hw in
-    let ez : K / r.w % r.z ≡ z = ap (λ n. n % r.z) dw ∙ mod-mul-add X r.z z hz in
-    let dz : K / r.w / r.z ≡ X = ap (λ n. n / r.z) dw ∙ div-mul-add X r.z z hz in
-    let ey : K / r.w / r.z % r.y ≡ y = ap (λ n. n % r.y) dz ∙ mod-mul-add x r.y y hy in
-    let ex : K / r.w / r.z / r.y ≡ x = ap (λ n. n / r.y) dz ∙ div-mul-add x r.y y hy in
-    (K, digits_lt (digits_lt (digits_lt hx hy) hz) hw, cc)
+each_assigns c cl r k is v h = omega (arith, within r k v h, is v h, range_within c cl v)
 
 -- a proper assignment keeps within the ranges
-in_range : (c : Counts) (cl : Clause) (σ : Assignment) (v n : ℕ) → v < 4 → Proper c cl σ → n ≡ range c cl v → σ v < n
-in_range c cl σ v n h p e =
-    let P : ℕ → Type 0 = λ m. σ v < m in
-    subst P (sym e) (cond_both (uses v cl) c.names 1 P (λ _. p.assigns v h) (λ no-use. omega (arith, p.unused v h no-use)))
+in_range : (c : Counts) (cl : Clause) (r : Ranges) (σ : Assignment) → RunsThrough c cl r → Proper c cl σ → (v : ℕ) → v < 4 → σ v < slice_index r.most v
+in_range c cl r σ is p v h =
+    let P : ℕ → Type 0 = λ n. σ v < n in
+    subst P (sym (is v h)) (cond_both (uses v cl) c.names 1 P (λ _. p.assigns v h) (λ no-use. omega (arith, p.unused v h no-use)))
 
 pub each_reached : EachReached
-each_reached c cl r σ is p =
-    let (k, h, e) = placed r (σ 0) (σ 1) (σ 2) (σ 3)
-    (in_range c cl σ 0 r.x (omega arith) p is.x)
-    (in_range c cl σ 1 r.y (omega arith) p is.y)
-    (in_range c cl σ 2 r.z (omega arith) p is.z)
-    (in_range c cl σ 3 r.w (omega arith) p is.w) in
-    (k, h, λ v lt. ap (λ n. names_of n v) e ∙ four_at σ v lt)
+each_reached c cl r σ is p = placed r σ (in_range c cl r σ is p)
 
--- which variables a clause uses
-pub uses_in : (v : ℕ) (cl : Clause) → AllByRecursion (λ l. atom_use v l.atom ≡ true → uses v cl ≡ true) cl
-uses_in v [] = tt
-uses_in v (l ∷ ls) = (
-  or_left (atom_use v l.atom) (uses v ls),
-  All-weaker
-      (λ m. atom_use v m.atom ≡ true → uses v ls ≡ true)
-      (λ m. atom_use v m.atom ≡ true → uses v (l ∷ ls) ≡ true)
-      (λ m f e. or_right (atom_use v l.atom) (uses v ls) (f e))
-      ls
-      (uses_in v ls),
-)
-
-pub uses_none : (v : ℕ) (cl : Clause) → AllByRecursion (λ l. atom_use v l.atom ≡ false) cl → uses v cl ≡ false
-uses_none v [] h = refl
-uses_none v (l ∷ ls) h = ap₂ ◌||◌ h.0 (uses_none v ls h.1)
+pub each_later : EachLater
+each_later r j k hj hk b =
+    let up = rises r (names_of (nth_assignment r j)) (names_of (nth_assignment r k)) (within r j) b.at b.variable b.alike b.lower in
+    omega (arith, up, place_of r j hj, place_of r k hk)

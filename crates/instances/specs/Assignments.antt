@@ -1,16 +1,15 @@
 -- The assignments of a clause's own variables, and in which order they are gone through.
-use Rattle.std.specs.Prelude.{◌≡◌, ℕ, ◌*◌, ◌/◌, ◌%◌, ◌<◌, ◌≤◌, cond, not, Some, None, Option}
+use Rattle.std.specs.Prelude.{◌≡◌, ℕ, ◌*◌, ◌/◌, ◌%◌, ◌<◌, ◌≤◌, min, max, cond, not, List, [], ◌∷◌, Some, None, Option, slice_index}
 use Rattle.syntax.specs.declared.types.Literal.{Literal}
 use Rattle.syntax.specs.declared.counts.Counts.{Counts}
 use Rattle.syntax.specs.Numbers.{atom_of}
 use Rattle.semantics.specs.Meaning.{Clause, Assignment, Assigns, four, ground_of}
-use Rattle.semantics.specs.Checks.{uses, Proper}
-use Rattle.instances.specs.declared.four.FourNames.{FourNames}
+use Rattle.semantics.specs.Checks.{uses, Proper, Before}
 use Rattle.instances.specs.declared.ranges.Ranges.{Ranges}
 
 -- the assignment of the four names
-abbrev pub names_of : FourNames → Assignment
-names_of n = four n.x n.y n.z n.w
+abbrev pub names_of : List ℕ → Assignment
+names_of n = four (slice_index n 0) (slice_index n 1) (slice_index n 2) (slice_index n 3)
 
 -- the denial of a literal's instance
 abbrev pub denial : Assignment → Literal → Literal
@@ -20,37 +19,42 @@ denial σ l = record { sign = not l.sign; atom = atom_of (ground_of σ l.atom) }
 abbrev pub range : Counts → Clause → ℕ → ℕ
 range c cl v = cond (uses v cl) c.names 1
 
-pub record RunsThrough (c : Counts) (cl : Clause) (r : Ranges) : Type 0 where
-  pub x : r.x ≡ range c cl 0
-  pub y : r.y ≡ range c cl 1
-  pub z : r.z ≡ range c cl 2
-  pub w : r.w ≡ range c cl 3
+abbrev pub RunsThrough : Counts → Clause → Ranges → Type 0
+RunsThrough c cl r = (v : ℕ) → v < 4 → slice_index r.most v ≡ range c cl v
+
+-- each variable runs through so many names at most, and through 1 at least
+abbrev pub Capped : Ranges → List ℕ → Ranges → Type 0
+Capped r most s = (v : ℕ) → v < 4 → slice_index s.most v ≡ max (min (slice_index r.most v) (slice_index most v)) 1
 
 -- how many assignments the ranges give
 abbrev pub size : Ranges → ℕ
-size r = r.x * r.y * r.z * r.w
+size r = slice_index r.most 0 * slice_index r.most 1 * slice_index r.most 2 * slice_index r.most 3
 
--- the k-th of them, variable 3 fastest
-abbrev pub nth_assignment : Ranges → ℕ → FourNames
-nth_assignment r k = record {
-  x = k / r.w / r.z / r.y;
-  y = k / r.w / r.z % r.y;
-  z = k / r.w % r.z;
-  w = k % r.w;
-}
+-- the k-th of them, variable 3 fastest; past the last they begin anew
+abbrev pub nth_assignment : Ranges → ℕ → List ℕ
+nth_assignment r k =
+    let y = slice_index r.most 1 in
+    let z = slice_index r.most 2 in
+    let w = slice_index r.most 3 in
+    k / w / z / y % slice_index r.most 0 ∷ k / w / z % y ∷ k / w % z ∷ k % w ∷ []
 
 -- nothing past the last
-abbrev pub NthNames : Ranges → ℕ → Option FourNames → Type 0
+abbrev pub NthNames : Ranges → ℕ → Option (List ℕ) → Type 0
 NthNames r k None = size r ≤ k
 NthNames r k (Some n) = (k < size r) × (n ≡ nth_assignment r k)
 
 -- The laws. Each of a clause's assignments gives the variables names below N
 abbrev pub EachAssigns : Type 0
 EachAssigns =
-    (c : Counts) (cl : Clause) (r : Ranges) (k : ℕ) → RunsThrough c cl r → k < size r → Assigns c (names_of (nth_assignment r k))
+    (c : Counts) (cl : Clause) (r : Ranges) (k : ℕ) → RunsThrough c cl r → Assigns c (names_of (nth_assignment r k))
 
 -- and each assignment of the clause's own variables is one of them
 abbrev pub EachReached : Type 0
 EachReached =
     (c : Counts) (cl : Clause) (r : Ranges) (σ : Assignment) → RunsThrough c cl r → Proper c cl σ →
     (k : ℕ) × (k < size r) × ((v : ℕ) → v < 4 → names_of (nth_assignment r k) v ≡ σ v)
+
+-- and what comes before another has the lower place
+abbrev pub EachLater : Type 0
+EachLater =
+    (r : Ranges) (j k : ℕ) → j < size r → k < size r → Before (names_of (nth_assignment r j)) (names_of (nth_assignment r k)) → j < k

@@ -1,44 +1,49 @@
-// A literal under an assignment.
+// Terms, atoms and literals under an assignment.
 ghost use Rattle.std.specs.Prelude.{◌≡◌};
-ghost use Rattle.semantics.specs.Meaning.{name_at};
+ghost use Rattle.syntax.specs.Numbers.{atom_of};
+ghost use Rattle.semantics.specs.Meaning.{name_at, ground_of};
 ghost use Rattle.instances.specs.Assignments.{names_of, denial as denial_by};
 
-use crate::four::FourNames;
-use syntax::types::{Atom, Literal, Term};
+use syntax::types::{Atom, Ground, Literal, Term};
 
-// The name that a term stands for.
-fn name_of(names: FourNames, t: Term) -> u8
-    ensures { result ≡ name_at (names_of names) t }
+// The name that a term stands for. There is no variable past 3; one that is asked for is read as 3.
+pub fn name_of(names: [u8; 4], term: Term) -> u8
+    ensures { result ≡ name_at (names_of names) term }
 {
-    match t {
+    match term {
         Term::Name(a) => a,
-        Term::Var(0) => names.x,
-        Term::Var(1) => names.y,
-        Term::Var(2) => names.z,
-        Term::Var(_) => names.w,
+        Term::Var(v) => names[v.min(3) as usize],
+    }
+}
+
+// The instance of an atom.
+pub fn instance(names: [u8; 4], atom: Atom) -> Ground
+    ensures { result ≡ ground_of (names_of names) atom }
+{
+    match atom {
+        Atom::Same(t, u) => Ground::Same(name_of(names, t), name_of(names, u)),
+        Atom::Prop(p, t) => Ground::Prop(p, name_of(names, t)),
+        Atom::Rel(r, t, u) => Ground::Rel(r, name_of(names, t), name_of(names, u)),
+    }
+}
+
+// A ground atom as an atom.
+fn as_atom(g: Ground) -> Atom
+    ensures { result ≡ atom_of g }
+{
+    match g {
+        Ground::Same(a, b) => Atom::Same(Term::Name(a), Term::Name(b)),
+        Ground::Prop(p, a) => Atom::Prop(p, Term::Name(a)),
+        Ground::Rel(r, a, b) => Atom::Rel(r, Term::Name(a), Term::Name(b)),
     }
 }
 
 // The literal's instance, denied.
-pub fn denial(names: FourNames, l: Literal) -> Literal
+pub fn denial(names: [u8; 4], l: Literal) -> Literal
     ensures { result ≡ denial_by (names_of names) l }
 {
-    let atom = match l.atom {
-        Atom::Same(t, u) => Atom::Same(
-            Term::Name(name_of(names, t)),
-            Term::Name(name_of(names, u)),
-        ),
-        Atom::Prop(p, t) => Atom::Prop(p, Term::Name(name_of(names, t))),
-        Atom::Rel(r, t, u) => {
-            Atom::Rel(
-                r,
-                Term::Name(name_of(names, t)),
-                Term::Name(name_of(names, u)),
-            )
-        }
-    };
     Literal {
         sign: !l.sign,
-        atom,
+        atom: as_atom(instance(names, l.atom)),
     }
 }

@@ -1,14 +1,14 @@
 // The assignments of a clause's own variables, in order.
 ghost use Rattle.std.specs.Prelude.{◌≡◌, ◌≤◌, [], slice_index_or};
-ghost use Rattle.semantics.specs.Checks.{term_use, atom_use, uses};
-ghost use Rattle.instances.specs.Assignments.{range as range_by, RunsThrough, size as size_by, NthNames, EachAssigns, EachReached};
+ghost use Rattle.semantics.specs.Checks.{term_use, atom_use, uses as uses_by};
+ghost use Rattle.instances.specs.Assignments.{range as range_by, RunsThrough, Capped, size as size_by, nth_assignment, NthNames, EachAssigns, EachReached, EachLater};
 
-use crate::four::FourNames;
 use crate::ranges::Ranges;
 use books::book::Book;
+use std::array;
 use syntax::types::{Atom, Term};
 
-fn is_in_term(v: u8, term: Term) -> bool
+fn term_uses(v: u8, term: Term) -> bool
     ensures { result ≡ term_use v term }
 {
     match term {
@@ -17,35 +17,27 @@ fn is_in_term(v: u8, term: Term) -> bool
     }
 }
 
-fn is_in_atom(v: u8, atom: Atom) -> bool
+fn atom_uses(v: u8, atom: Atom) -> bool
     ensures { result ≡ atom_use v atom }
 {
     match atom {
-        Atom::Same(t, u) => is_in_term(v, t) || is_in_term(v, u),
-        Atom::Prop(_, t) => is_in_term(v, t),
-        Atom::Rel(_, t, u) => is_in_term(v, t) || is_in_term(v, u),
+        Atom::Same(t, u) | Atom::Rel(_, t, u) => term_uses(v, t) || term_uses(v, u),
+        Atom::Prop(_, t) => term_uses(v, t),
     }
 }
 
 // Whether clause i uses the variable.
-fn is_used<B: Book>(book: &B, i: usize, v: u8) -> bool
-    ensures { result ≡ uses v (slice_index_or (B.Book.clauses book.now) i []) }
+pub fn uses<B: Book>(book: &B, i: usize, v: u8) -> bool
+    ensures { result ≡ uses_by v (slice_index_or (B.clauses book.now) i []) }
 {
-    let mut j = 0;
-    while let Some(l) = book.literal(i, j) {
-        if is_in_atom(v, l.atom) {
-            return true;
-        }
-        j += 1;
-    }
-    false
+    (0..8).any(|j| book.literal(i, j).is_some_and(|l| atom_uses(v, l.atom)))
 }
 
 // How many names a variable of clause i runs through.
 fn range<B: Book>(book: &B, i: usize, v: u8) -> u8
-    ensures { result ≡ range_by (B.Book.counts book.now) (slice_index_or (B.Book.clauses book.now) i []) v }
+    ensures { result ≡ range_by (B.counts book.now) (slice_index_or (B.clauses book.now) i []) v }
 {
-    if is_used(book, i, v) {
+    if uses(book, i, v) {
         book.counts().names()
     } else {
         1
@@ -56,13 +48,20 @@ impl Ranges {
     // The ranges of the variables of clause i: a variable that it uses runs through all names, any other
     // through name 0 alone.
     pub fn of<B: Book>(book: &B, i: usize) -> Ranges
-        ensures { RunsThrough (B.Book.counts book.now) (slice_index_or (B.Book.clauses book.now) i []) result }
+        ensures { RunsThrough (B.counts book.now) (slice_index_or (B.clauses book.now) i []) result }
     {
-        let x = range(book, i, 0);
-        let y = range(book, i, 1);
-        let z = range(book, i, 2);
-        let w = range(book, i, 3);
-        Ranges { x, y, z, w }
+        Ranges {
+            most: [0, 1, 2, 3].map(|v| range(book, i, v)),
+        }
+    }
+
+    // The same, but each variable v through `most[v]` names at most, and through 1 at least.
+    pub fn capped(self, most: [u8; 4]) -> Ranges
+        ensures { Capped self most result }
+    {
+        Ranges {
+            most: array::from_fn(|v| self.most[v].min(most[v]).max(1)),
+        }
     }
 
     // How many assignments there are.
@@ -70,30 +69,39 @@ impl Ranges {
         ensures size { result ≡ size_by self }
         ensures few { result ≤ 1048576 }
     {
-        self.x as usize * self.y as usize * self.z as usize * self.w as usize
+        let [x, y, z, w] = self.most;
+        x as usize * y as usize * z as usize * w as usize
     }
 
-    // The k-th of them, variable 3 fastest; nothing past the last.
-    pub fn names(self, k: usize) -> Option<FourNames>
+    // The k-th of them, variable 3 fastest; past the last they begin anew.
+    pub fn nth(self, k: usize) -> [u8; 4]
+        ensures { result ≡ nth_assignment self k }
+    {
+        let [x, y, z, w] = self.most.map(|n| n as usize);
+        [
+            (k / w / z / y % x) as u8,
+            (k / w / z % y) as u8,
+            (k / w % z) as u8,
+            (k % w) as u8,
+        ]
+    }
+
+    // The k-th of them; nothing past the last.
+    pub fn names(self, k: usize) -> Option<[u8; 4]>
         ensures { NthNames self k result }
     {
-        if k >= self.size() {
-            return None;
+        if k < self.size() {
+            Some(self.nth(k))
+        } else {
+            None
         }
-        let y = self.y as usize;
-        let z = self.z as usize;
-        let w = self.w as usize;
-        Some(FourNames {
-            x: (k / w / z / y) as u8,
-            y: (k / w / z % y) as u8,
-            z: (k / w % z) as u8,
-            w: (k % w) as u8,
-        })
     }
 }
 
-// The assignments give names below N, and each assignment of the clause's own variables is one of them.
+// The assignments give names below N, each assignment of the clause's own variables is one of them, and they come in
+// order.
 pub fn assignment_laws() -> ()
     ensures assigns { EachAssigns }
     ensures reached { EachReached }
+    ensures later { EachLater }
 {}

@@ -1,11 +1,10 @@
-use Rattle.std.proofs.Common.{◌≡◌, ℕ, [], ◌++◌, get_or, sym, refl, ◌∙◌, subst, arith, below_more}
+use Rattle.std.proofs.Common.{◌≡◌, ℕ, List, [], ◌++◌, get_or, sym, refl, ◌∙◌, subst, arith, below_more}
 use Rattle.syntax.specs.declared.counts.Counts.{Counts}
 use Rattle.syntax.specs.Lawful.{Lawful}
 use Rattle.semantics.specs.Meaning.{Assigns}
 use Rattle.semantics.specs.Judgements.{Contradictory}
 use Rattle.semantics.specs.Suppositions.{denials}
 use Rattle.books.proofs.Readings.{clause_lawful}
-use Rattle.instances.specs.declared.four.FourNames.{FourNames}
 use Rattle.instances.specs.Assignments.{names_of, nth_assignment, RunsThrough}
 use Rattle.instances.proofs.Ranging.{each_assigns, whole}
 use Rattle.tableau.specs.Judged.{lent}
@@ -28,7 +27,7 @@ parts_at-requires g c =
     record {
       fine = comparable_after k d one m m' c.requires.fine c.loop-names.invariant.0;
       inside = c.requires.inside;
-      assigns = subst (λ (n : FourNames). Assigns d (names_of n)) (sym at.1) (each_assigns d cl c.of-ranges.result c.loop-names.k c.of-ranges.ensures at.0);
+      assigns = subst (λ (n : List ℕ). Assigns d (names_of n)) (sym at.1) (each_assigns d cl c.of-ranges.result c.loop-names.k c.of-ranges.ensures);
     }
 
 pub overflow_add-k : goal.overflow_add-k
@@ -62,7 +61,7 @@ loop-names-preserved g c =
     let at = c.in-Some.ensures in
     let r = c.of-ranges.result in
     let P : ℕ → Type 0 = λ n. Contradictory k (one ++ denials (names_of (nth_assignment r n)) cl) in
-    let here : P c.loop-names.k = subst (λ (n : FourNames). Contradictory k (one ++ denials (names_of n) cl)) at.1 p.2 in (
+    let here : P c.loop-names.k = subst (λ (n : List ℕ). Contradictory k (one ++ denials (names_of n) cl)) at.1 p.2 in (
       kept_more m m' m'' c.loop-names.invariant.0 p.0,
       p.1 ∙ c.loop-names.invariant.1,
       omega (arith, at.0, whole r),

@@ -1,6 +1,6 @@
-use Rattle.std.proofs.Common.{refl}
+use Rattle.std.proofs.Common.{arith}
 use Rattle.instances.proofs.Ranging.{whole}
 use Rattle.instances.proofs.ranges.Ranges.size.Goals as goal
 
-pub returns : goal.returns
-returns c = record { size = refl; few = whole c.args.self }
+pub returns-clause-few : goal.returns-clause-few
+returns-clause-few c = omega (arith, whole c.args.self)
