@@ -1,62 +1,43 @@
--- What is found for each pair of leaders.
-use Rattle.std.proofs.Common.{◌≡◌, ℕ, ◌+◌, ◌<◌, Bool, true, false, List, length, get_or, set, sym, ap, ◌∙◌, subst, ⊎_elim, arith, get_or-set_other, get_or-set_same, below_more}
-use Rattle.std.proofs.lemmas.Bool.{cases_eq}
-use Rattle.syntax.specs.declared.types.Ground.{Ground}
+-- The pairs of leaders for which a symbol's atom has a mark, found name by name.
+use Rattle.std.proofs.Common.{◌≡◌, ℕ, ◌+◌, ◌<◌, ◌⊎◌, sym, ◌∙◌, subst, ⊎_elim, arith, below_more}
 use Rattle.syntax.specs.declared.types.Mark.{Mark}
-use Rattle.syntax.specs.declared.counts.Counts.{Counts}
-use Rattle.syntax.specs.Numbers.{LawfulGround}
-use Rattle.semantics.specs.Branch.{Branch, mark_at}
-use Rattle.classes.specs.declared.table.ClassTable.{ClassTable}
+use Rattle.classes.specs.declared.pairs.Pairs.{Pairs}
 use Rattle.classes.specs.declared.symbol.Symbol.{Symbol}
-use Rattle.classes.specs.declared.symbol.Symbol.TheVariants.{Prop as Prop', Rel as Rel'}
-use Rattle.classes.specs.Leaders.{leader_of}
-use Rattle.classes.specs.Symbols.{LawfulSymbol, More, Only, RowFound, atom_with, slot_of, width}
+use Rattle.classes.specs.Pairs.{Has}
+use Rattle.classes.specs.Symbols.{Found, Meets, View, atom_with, mark_in, width}
 
--- the leader of a name of the book lies below 32
-pub small : (c : Counts) (t : ClassTable) (a : ℕ) → a < c.names → leader_of t a < 32
-small c t a h = omega (arith, c.few, t.low a (omega (arith, c.few)))
+-- found so far: every pair is one of those, and those of first names below x, and of x and second names below y, are there
+pub record Sofar (v : View) (s : Symbol) (m : Mark) (x y : ℕ) (pairs : Pairs) : Type 0 where
+  pub only : (p q : ℕ) → Has pairs p q → Meets v s m p q
+  pub rows : (a : ℕ) → a < x → (b : ℕ) → b < width v.counts s → mark_in v (atom_with s a b) ≡ m → Has pairs (v.leader a) (v.leader b)
+  pub row : (b : ℕ) → b < y → mark_in v (atom_with s x b) ≡ m → Has pairs (v.leader x) (v.leader b)
 
--- a second name is a name
-pub width_names : (c : Counts) (s : Symbol) (y : ℕ) → y < width c s → y < c.names
-width_names c (Prop' p) y h = omega (arith, c.some)
-width_names c (Rel' r) y h = h
+module _ (v : View) (s : Symbol) (m : Mark) (x y : ℕ) (pairs : Pairs) where
+  -- nothing is found yet
+  pub found_none : ((p q : ℕ) → Has pairs p q → ⊥) → Sofar v s m 0 0 pairs
+  found_none none = record { only = λ p q h. absurd (none p q h); rows = λ a h. absurd (omega arith); row = λ b h. absurd (omega arith) }
 
-pub atom_lawful : (c : Counts) (s : Symbol) (x y : ℕ) → LawfulSymbol c s → x < c.names → y < width c s → LawfulGround c (atom_with s x y)
-atom_lawful c (Prop' p) x y l h k = (l, h)
-atom_lawful c (Rel' r) x y l h k = (l, (h, k))
+  pub found_pass : Sofar v s m x y pairs → (mark_in v (atom_with s x y) ≡ m → ⊥) → Sofar v s m x (y + 1) pairs
+  found_pass is other = record { only = is.only; rows = is.rows; row = below_more _ y is.row (λ e. absurd (other e)) }
 
--- the mark that was read of the symbol's atom
-pub mark_with :
-    (c : Counts) (marks : Branch) (s : Symbol) (x y : ℕ) (g : Ground) (m : Mark) → g ≡ atom_with s x y → LawfulGround c (atom_with s x y) →
-    (LawfulGround c g → m ≡ mark_at c marks g) → m ≡ mark_at c marks (atom_with s x y)
-mark_with c marks s x y g m e l read = subst (λ (o : Ground). LawfulGround c o → m ≡ mark_at c marks o) e read l
+  pub found_put :
+      (after : Pairs) (a b : ℕ) → Sofar v s m x y pairs → x < v.counts.names → y < width v.counts s → mark_in v (atom_with s x y) ≡ m →
+      a ≡ v.leader x → b ≡ v.leader y → Has after a b → ((p q : ℕ) → Has pairs p q → Has after p q) →
+      ((p q : ℕ) → Has after p q → Has pairs p q ⊎ ((p ≡ a) × (q ≡ b))) → Sofar v s m x (y + 1) after
+  found_put after a b is hx hy e at_a at_b here more only =
+      record {
+        only = λ p q h. ⊎_elim (is.only p q) (λ t. (x, hx, (sym (t.0 ∙ at_a), (y, hy, (sym (t.1 ∙ at_b), e))))) (only p q h);
+        rows = λ d h b k f. more _ _ (is.rows d h b k f);
+        row = below_more _ y (λ b h f. more _ _ (is.row b h f)) (λ _. subst (Has after (v.leader x)) at_b (subst (λ (k : ℕ). Has after k b) at_a here));
+      }
 
--- how far a row is gathered
-abbrev pub Row : Counts → Branch → (ℕ → ℕ) → Symbol → Mark → ℕ → List Bool → ℕ → List Bool → Type 0
-Row c marks leader s m x before y found = Only c marks leader s m found × More before found × RowFound c marks leader s m x y found
+-- a row is whole
+pub found_row : (v : View) (s : Symbol) (m : Mark) (x y : ℕ) (pairs : Pairs) → y ≡ width v.counts s → Sofar v s m x y pairs → Sofar v s m (x + 1) 0 pairs
+found_row v s m x y pairs e is = record { only = is.only; rows = below_more _ x is.rows (λ b h. is.row b (omega arith)); row = λ b h. absurd (omega arith) }
 
-module _ (c : Counts) (marks : Branch) (leader : ℕ → ℕ) (s : Symbol) (m : Mark) (x : ℕ) (before : List Bool) (y : ℕ) (found : List Bool)
-    (row : Row c marks leader s m x before y found) where
-  pub row_pass : (mark_at c marks (atom_with s x y) ≡ m → ⊥) → Row c marks leader s m x before (y + 1) found
-  row_pass other = (row.0, row.1, below_more _ y row.2 (λ e. absurd (other e)))
-
-  -- one place more is found
-  put_more : (i : ℕ) → i < length found → More found (set found i true)
-  put_more i inside k e =
-      ⊎_elim
-      (λ eq. ap (λ (j : ℕ). get_or (set found i true) j false) eq ∙ get_or-set_same found i true false inside)
-      (λ ne. get_or-set_other found i k true false ne ∙ e)
-      (cases_eq k i)
-
-  pub row_put :
-      x < c.names → y < width c s → slot_of leader x y < length found → mark_at c marks (atom_with s x y) ≡ m →
-      Row c marks leader s m x before (y + 1) (set found (slot_of leader x y) true)
-  row_put hx hy inside e =
-      let more = put_more (slot_of leader x y) inside in (
-        λ k so. ⊎_elim
-            (λ eq. (x, hx, (y, hy, sym eq, e)))
-            (λ ne. row.0 k (sym (get_or-set_other found (slot_of leader x y) k true false ne) ∙ so))
-            (cases_eq k (slot_of leader x y)),
-        λ k so. more k (row.1 k so),
-        below_more _ y (λ z h f. more (slot_of leader x z) (row.2 z h f)) (λ _. get_or-set_same found (slot_of leader x y) true false inside),
-      )
+-- all rows are whole
+pub found_all : (v : View) (s : Symbol) (m : Mark) (pairs : Pairs) → Sofar v s m v.counts.names 0 pairs → Found v s m pairs
+found_all v s m pairs is p q = (
+  is.only p q,
+  λ (x, hx, (e, (y, hy, (f, m)))). subst (λ (k : ℕ). Has pairs k q) e (subst (λ (k : ℕ). Has pairs (v.leader x) k) f (is.rows x hx y hy m)),
+)

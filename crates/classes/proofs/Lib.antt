@@ -1,8 +1,9 @@
 pub mod Joining
-pub mod Marking
 pub mod Clashing
-pub mod Meeting
-pub mod Gathering
 pub mod Deciding
+pub mod Pairing
+pub mod Gathering
+pub mod Listing
 pub mod Whole
 pub mod Writing
+pub mod Meeting

@@ -1,5 +1,5 @@
 -- A model written into memory, atom by atom.
-use Rattle.std.proofs.Common.{◌≡◌, ℕ, ◌+◌, ◌*◌, ◌<◌, ◌≤◌, Bool, true, false, eqb, List, length, get_or, take, set, sym, refl, ap, ◌∙◌, subst, ⊎_elim, arith, length-set, get_or-set_other, get_or-set_same, below_more}
+use Rattle.std.proofs.Common.{◌≡◌, ℕ, ◌+◌, ◌<◌, ◌≤◌, Bool, true, List, length, get_or, take, set, Decides, sym, refl, ap, ◌∙◌, subst, ⊎_elim, arith, length-set, get_or-set_other, get_or-set_same, below_more}
 use Rattle.std.proofs.lemmas.List.{drop-set-lt, get_or-take, length-take-le}
 use Rattle.std.proofs.lemmas.Bool.{cases_eq, eqb-true, eq-eqb, and_from, and_parts}
 use Rattle.syntax.specs.declared.types.Ground.{Ground}
@@ -15,13 +15,19 @@ use Rattle.semantics.specs.Branch.{Branch, is_yes, own, ClassTable}
 use Rattle.semantics.proofs.Finite.{any_in, any_out}
 use Rattle.semantics.proofs.Instances.{together}
 use Rattle.semantics.proofs.Own.{leader_below}
+use Rattle.classes.specs.declared.pairs.Pairs.{Pairs}
 use Rattle.classes.specs.declared.symbol.Symbol.{Symbol}
-use Rattle.classes.specs.declared.symbol.Symbol.TheVariants.{Prop as Prop', Rel as Rel'}
-use Rattle.classes.specs.Symbols.{Gathered, LawfulSymbol, atom_with, slot_of, width}
+use Rattle.classes.specs.declared.symbol.Symbol.TheVariants.{Same as Same', Prop as Prop', Rel as Rel'}
+use Rattle.classes.specs.Pairs.{Has}
+use Rattle.classes.specs.Symbols.{Holding, LawfulSymbol, View, atom_with, symbol_at, symbols, width}
 use Rattle.classes.specs.Models.{Filled, Right}
-use Rattle.classes.specs.Writing.{Better, RowRight, RowWritten, RowsWritten, SameRight, SameRowWritten, SamesWritten, SymbolRight, Tells}
-use Rattle.classes.proofs.Gathering.{atom_lawful}
-use Rattle.classes.proofs.Whole.{apart}
+use Rattle.classes.specs.Writing.{Better, RowRight, SymbolRight, own_of}
+use Rattle.classes.proofs.Listing.{listed}
+
+pub atom_lawful : (c : Counts) (s : Symbol) (x y : ℕ) → LawfulSymbol c s → x < c.names → y < width c s → LawfulGround c (atom_with s x y)
+atom_lawful c Same' x y l h k = (h, k)
+atom_lawful c (Prop' p) x y l h k = (l, h)
+atom_lawful c (Rel' r) x y l h k = (l, (h, k))
 
 pub better_none : (c : Counts) (I : Interpretation) (bytes : List ℕ) → Better c I bytes bytes
 better_none c I bytes = record { long = refl; rest = refl; kept = λ g l r. r }
@@ -30,12 +36,12 @@ pub better_on : (c : Counts) (I : Interpretation) (one two three : List ℕ) →
 better_on c I one two three p q =
     record { long = q.long ∙ p.long; rest = q.rest ∙ p.rest; kept = λ g l r. q.kept g l (p.kept g l r) }
 
--- an atom written as it holds, v being the byte
+-- an atom written as it holds
 module _ (c : Counts) (I : Interpretation) (bytes : List ℕ) (g : Ground) (t : Bool) (l : LawfulGround c g) (room : atoms c ≤ length bytes) (so : t ≡ value I g) where
-  pub put_right : Right c I (set bytes (number_of c g) (bit t)) g
+  put_right : Right c I (set bytes (number_of c g) (bit t)) g
   put_right = get_or-set_same bytes (number_of c g) (bit t) 0 (omega (arith, below_all c g l)) ∙ ap bit so
 
-  pub put_better : Better c I bytes (set bytes (number_of c g) (bit t))
+  put_better : Better c I bytes (set bytes (number_of c g) (bit t))
   put_better =
       record {
         long = length-set bytes (number_of c g) (bit t);
@@ -46,58 +52,32 @@ module _ (c : Counts) (I : Interpretation) (bytes : List ℕ) (g : Ground) (t : 
             (cases_eq (number_of c h) (number_of c g));
       }
 
--- one atom more of a row
-pub same_more :
-    (c : Counts) (leader : ℕ → ℕ) (a b : ℕ) (before bytes after : List ℕ) (t : Bool) → a < c.names → b < c.names → atoms c ≤ length bytes →
-    t ≡ eqb (leader a) (leader b) → after ≡ set bytes (number_of c (Same a b)) (bit t) →
-    SameRowWritten c leader a b before bytes → SameRowWritten c leader a (b + 1) before after
-same_more c leader a b before bytes after t ha hb room is e row I leads =
-    let so = is ∙ leads a b ha hb in
-    let l : LawfulGround c (Same a b) = (ha, hb) in
-    let better = put_better c I bytes (Same a b) t l room so in
-    subst (λ (xs : List ℕ). Better c I before xs × SameRight c I a (b + 1) xs) (sym e) (
-      better_on c I before bytes _ (row I leads).0 better,
-      below_more _ b (λ k h. better.kept (Same a k) (ha, omega arith) ((row I leads).1 k h)) (put_right c I bytes (Same a b) t l room so),
-    )
+-- written so far are the symbol's atoms of first names below x, and of x and second names below y
+pub record Sofar (c : Counts) (I : Interpretation) (s : Symbol) (x y : ℕ) (before after : List ℕ) : Type 0 where
+  pub better : Better c I before after
+  pub rows : (a : ℕ) → a < x → RowRight c I s a (width c s) after
+  pub row : RowRight c I s x y after
 
-pub row_more :
-    (c : Counts) (leader : ℕ → ℕ) (s : Symbol) (found : List Bool) (x y : ℕ) (before bytes after : List ℕ) (t : Bool) →
-    LawfulSymbol c s → x < c.names → y < width c s → atoms c ≤ length bytes →
-    t ≡ get_or found (slot_of leader x y) false → after ≡ set bytes (number_of c (atom_with s x y)) (bit t) →
-    RowWritten c leader s found x y before bytes → RowWritten c leader s found x (y + 1) before after
-row_more c leader s found x y before bytes after t ls hx hy room is e row I tells =
-    let so = is ∙ tells y hy in
-    let l = atom_lawful c s x y ls hx hy in
-    let better = put_better c I bytes (atom_with s x y) t l room so in
-    subst (λ (xs : List ℕ). Better c I before xs × RowRight c I s x (y + 1) xs) (sym e) (
-      better_on c I before bytes _ (row I tells).0 better,
-      below_more _ y (λ k h. better.kept (atom_with s x k) (atom_lawful c s x k ls hx (omega arith)) ((row I tells).1 k h)) (put_right c I bytes (atom_with s x y) t l room so),
-    )
+module _ (c : Counts) (I : Interpretation) (s : Symbol) (before : List ℕ) where
+  pub wrote_none : Sofar c I s 0 0 before before
+  wrote_none = record { better = better_none c I before; rows = λ a h. absurd (omega arith); row = λ b h. absurd (omega arith) }
 
--- one row more
-pub sames_more :
-    (c : Counts) (leader : ℕ → ℕ) (a : ℕ) (before bytes after : List ℕ) → a < c.names →
-    SamesWritten c leader a before bytes → SameRowWritten c leader a c.names bytes after → SamesWritten c leader (a + 1) before after
-sames_more c leader a before bytes after ha rows row I leads =
-    let (better, right) = row I leads in (
-      better_on c I before bytes after (rows I leads).0 better,
-      below_more _ a (λ k h b hb. better.kept (Same k b) (omega arith, hb) ((rows I leads).1 k h b hb)) right,
-    )
+  -- one atom more
+  pub wrote_more :
+      (x y : ℕ) (bytes after : List ℕ) (g : Ground) (t : Bool) → Sofar c I s x y before bytes → LawfulSymbol c s → x < c.names → y < width c s →
+      atoms c ≤ length bytes → g ≡ atom_with s x y → t ≡ value I (atom_with s x y) → after ≡ set bytes (number_of c g) (bit t) → Sofar c I s x (y + 1) before after
+  wrote_more x y bytes after g t is ls hx hy room at so e =
+      let better = put_better c I bytes (atom_with s x y) t (atom_lawful c s x y ls hx hy) room so in
+      subst (Sofar c I s x (y + 1) before) (ap (λ (o : Ground). set bytes (number_of c o) (bit t)) (sym at) ∙ sym e)
+      record {
+        better = better_on c I before bytes _ is.better better;
+        rows = λ a h b k. better.kept (atom_with s a b) (atom_lawful c s a b ls (omega arith) k) (is.rows a h b k);
+        row = below_more _ y (λ b h. better.kept (atom_with s x b) (atom_lawful c s x b ls hx (omega arith)) (is.row b h)) (put_right c I bytes (atom_with s x y) t (atom_lawful c s x y ls hx hy) room so);
+      }
 
-pub rows_more :
-    (c : Counts) (leader : ℕ → ℕ) (s : Symbol) (found : List Bool) (x : ℕ) (before bytes after : List ℕ) → LawfulSymbol c s → x < c.names →
-    RowsWritten c leader s found x before bytes → RowWritten c leader s found x (width c s) bytes after → RowsWritten c leader s found (x + 1) before after
-rows_more c leader s found x before bytes after ls hx rows row I tells =
-    let (better, right) = row I (tells x hx) in (
-      better_on c I before bytes after (rows I tells).0 better,
-      below_more _ x (λ k h y hy. better.kept (atom_with s k y) (atom_lawful c s k y ls (omega arith) hy) ((rows I tells).1 k h y hy)) right,
-    )
-
--- right atoms of a symbol stay right
-pub symbol_kept :
-    (c : Counts) (I : Interpretation) (s : Symbol) (before after : List ℕ) → LawfulSymbol c s →
-    Better c I before after → SymbolRight c I s before → SymbolRight c I s after
-symbol_kept c I s before after ls better right x hx y hy = better.kept (atom_with s x y) (atom_lawful c s x y ls hx hy) (right x hx y hy)
+  -- a row is whole
+  pub wrote_row : (x y : ℕ) (after : List ℕ) → y ≡ width c s → Sofar c I s x y before after → Sofar c I s (x + 1) 0 before after
+  wrote_row x y after e is = record { better = is.better; rows = below_more _ x is.rows (λ b h. is.row b (omega arith)); row = λ b h. absurd (omega arith) }
 
 is_yes_yes : (m : Mark) → is_yes m ≡ true → m ≡ Yes
 is_yes_yes m e = grind arith
@@ -105,48 +85,59 @@ is_yes_yes m e = grind arith
 same_from : (s t : Bool) → (s ≡ true → t ≡ true) → (t ≡ true → s ≡ true) → s ≡ t
 same_from s t f g = grind arith
 
--- what is found yes tells what holds in the branch's own model
-module _ (c : Counts) (marks : Branch) (leader : ℕ → ℕ) (small : (a : ℕ) → a < c.names → leader a < 32) where
-  pub gathered_tells : (s : Symbol) (found : List Bool) → Gathered c marks leader s Yes found → (x : ℕ) → x < c.names → Tells c (own c marks leader) leader s found x
-  gathered_tells (Prop' p) found is x hx y hy =
+-- the pairs for which a symbol holds tell which of its atoms hold in the branch's own model
+module _ (v : View) (small : (a : ℕ) → v.leader a < 32) where
+  holding_tells :
+      (s : Symbol) (pairs : Pairs) (x y : ℕ) (r : Bool) → Holding v s pairs → y < width v.counts s →
+      Decides r (Has pairs (v.leader x) (v.leader y)) → r ≡ value (own_of v) (atom_with s x y)
+  holding_tells Same' pairs x y r is hy d =
+      same_from _ _
+      (λ e. eq-eqb _ _ ((is _ _).0 (d.0 e)).0)
+      (λ e. d.1 ((is _ _).1 (eqb-true _ _ e, small x)))
+  holding_tells (Prop' p) pairs x y r is hy d =
       same_from _ _
       (λ e.
-      let (u, hu, (v, hv, f, m)) = is.only _ e in
-      let same = apart c marks leader small u v x y hu (omega (arith, c.some)) hx (omega (arith, c.some)) f in
-      any_in c.names _ u hu (and_from _ _ (eq-eqb _ _ same.0) (ap is_yes m)))
+      let (u, hu, (f, (w, hw, (k, m)))) = (is _ _).0 (d.0 e) in
+      any_in v.counts.names _ u hu (and_from _ _ (eq-eqb _ _ f) (ap is_yes m)))
       (λ e.
-      let (u, hu, two) = any_out c.names _ e in
+      let (u, hu, two) = any_out v.counts.names _ e in
       let (f, m) = and_parts _ _ two in
-      subst (λ (t : ℕ). get_or found (t * 32 + leader y) false ≡ true) (eqb-true _ _ f) (is.all u hu y hy (is_yes_yes _ m)))
-  gathered_tells (Rel' q) found is x hx y hy =
+      d.1 ((is _ _).1 (u, hu, (eqb-true _ _ f, (y, hy, (refl, is_yes_yes _ m))))))
+  holding_tells (Rel' q) pairs x y r is hy d =
       same_from _ _
       (λ e.
-      let (u, hu, (v, hv, f, m)) = is.only _ e in
-      let same = apart c marks leader small u v x y hu hv hx hy f in
-      any_in c.names _ u hu (and_from _ _ (eq-eqb _ _ same.0)
-      (any_in c.names _ v hv (and_from _ _ (eq-eqb _ _ same.1) (ap is_yes m)))))
+      let (u, hu, (f, (w, hw, (k, m)))) = (is _ _).0 (d.0 e) in
+      any_in v.counts.names _ u hu (and_from _ _ (eq-eqb _ _ f)
+      (any_in v.counts.names _ w hw (and_from _ _ (eq-eqb _ _ k) (ap is_yes m)))))
       (λ e.
-      let (u, hu, two) = any_out c.names _ e in
+      let (u, hu, two) = any_out v.counts.names _ e in
       let (f, more) = and_parts _ _ two in
-      let (v, hv, three) = any_out c.names _ more in
+      let (w, hw, three) = any_out v.counts.names _ more in
       let (k, m) = and_parts _ _ three in
-      subst (λ (t : ℕ). get_or found (t * 32 + leader y) false ≡ true) (eqb-true _ _ f)
-      (subst (λ (t : ℕ). get_or found (leader u * 32 + t) false ≡ true) (eqb-true _ _ k) (is.all u hu v hv (is_yes_yes _ m))))
+      d.1 ((is _ _).1 (u, hu, (eqb-true _ _ f, (w, hw, (eqb-true _ _ k, is_yes_yes _ m))))))
 
--- the sames, the properties and the relations make the whole
-pub filled :
-    (c : Counts) (I : Interpretation) (none sames props rels : List ℕ) →
-    Better c I none sames → ((a : ℕ) → a < c.names → SameRight c I a c.names sames) →
-    Better c I sames props → ((p : ℕ) → p < c.properties → SymbolRight c I (Prop' p) props) →
-    Better c I props rels → ((q : ℕ) → q < c.relations → SymbolRight c I (Rel' q) rels) → Filled c I none rels
-filled c I none sames props rels one right-sames two right-props three right-rels =
-    let all = better_on c I none props rels (better_on c I none sames props one two) three in
-    record { long = all.long; rest = all.rest; tell = tell }
-  where
-    tell : (g : Ground) → LawfulGround c g → Right c I rels g
-    tell (Same a b) l = three.kept (Same a b) l (two.kept (Same a b) l (right-sames a l.0 b l.1))
-    tell (Prop p a) l = three.kept (Prop p a) l (right-props p l.0 a l.1 0 (omega arith))
-    tell (Rel q a b) l = right-rels q l.0 a l.1.0 b l.1.1
+  pub read_tells :
+      (s : Symbol) (pairs : Pairs) (x y a b : ℕ) (r : Bool) → Holding v s pairs → y < width v.counts s → a ≡ v.leader x → b ≡ v.leader y →
+      Decides r (Has pairs a b) → r ≡ value (own_of v) (atom_with s x y)
+  read_tells s pairs x y a b r is hy ea eb d =
+      holding_tells s pairs x y r is hy (subst (λ (k : ℕ). Decides r (Has pairs (v.leader x) k)) eb (subst (λ (k : ℕ). Decides r (Has pairs k b)) ea d))
+
+module _ (c : Counts) (I : Interpretation) where
+  -- right atoms of a symbol stay right
+  pub symbol_kept : (s : Symbol) (before after : List ℕ) → LawfulSymbol c s → Better c I before after → SymbolRight c I s before → SymbolRight c I s after
+  symbol_kept s before after ls better right x hx y hy = better.kept (atom_with s x y) (atom_lawful c s x y ls hx hy) (right x hx y hy)
+
+  -- the symbols make the whole
+  pub filled : (before after : List ℕ) → Better c I before after → ((k : ℕ) → k < symbols c → SymbolRight c I (symbol_at c k) after) → Filled c I before after
+  filled before after better right = record { long = better.long; rest = better.rest; tell = tell }
+    where
+      all : (s : Symbol) → LawfulSymbol c s → SymbolRight c I s after
+      all s l = let (k, h, e) = listed c s l in subst (λ (t : Symbol). SymbolRight c I t after) e (right k h)
+
+      tell : (g : Ground) → LawfulGround c g → Right c I after g
+      tell (Same a b) l = all Same' tt a l.0 b l.1
+      tell (Prop p a) l = all (Prop' p) l.0 a l.1 0 (omega arith)
+      tell (Rel q a b) l = all (Rel' q) l.0 a l.1.0 b l.1.1
 
 -- filled memory has the bytes of the model
 pub own_bytes :

@@ -1,5 +1,6 @@
 pub mod Leaders
 pub mod Linking
+pub mod Pairs
 pub mod Symbols
 pub mod Clashes
 pub mod Models

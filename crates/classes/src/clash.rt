@@ -1,195 +1,75 @@
 // Whether a branch clashes.
-ghost use Rattle.std.specs.Prelude.{◌≡◌, ℕ, ◌<◌, true, false, not, length, Decides, slice_index_or};
-ghost use Rattle.semantics.specs.Branch.{signed, Clash, ClassTable as Classes};
+ghost use Rattle.std.specs.Prelude.{◌<◌, Decides};
+ghost use Rattle.semantics.specs.Branch.{Clash, ClassTable as Classes};
 ghost use Rattle.classes.specs.Leaders.{leader_of};
-ghost use Rattle.classes.specs.Symbols.{BothAt, LawfulSymbol, Meets, MeetsRow, SameNo};
+ghost use Rattle.classes.specs.Symbols.{LawfulSymbol, Meets, MeetsRow, SymbolClash, view};
 ghost use Rattle.classes.specs.Clashes.{ClashAt, ClashBy};
 ghost use Rattle.classes.specs.Theorems.{ClashByLaw, ClashAtLaw, ClashTold, ClassesTold, ClassesSame};
 
-use crate::gather::gather;
-use crate::marks::mark_of;
+use crate::classed::Classed;
 use crate::symbol::Symbol;
-use crate::table::ClassTable;
-use syntax::counts::Counts;
 use syntax::numbers::atom_number;
 use syntax::types::{Ground, Mark};
 use tables::table::BranchTable;
 
-// Whether an atom of the symbol and the name has the mark, its second name having the leader of `b`.
-fn row_meets<T: BranchTable>(
-    counts: Counts,
-    table: &T,
-    classes: &ClassTable,
-    symbol: Symbol,
-    x: u8,
-    b: u8,
-    mark: Mark,
-) -> bool
-    requires { LawfulSymbol counts symbol × (x < counts.names) }
-    ensures { Decides result (MeetsRow counts (T.BranchTable.marks table.now) (leader_of classes.now) symbol x b mark) }
-{
-    for y in 0..symbol.width(counts) {
-        if classes.leader(y) == classes.leader(b)
-            && mark_of(counts, table, symbol.atom(x, y)) == mark
-        {
-            return true;
-        }
+impl<'a, T: BranchTable> Classed<'a, T> {
+    // Whether an atom of the symbol and the first name has the mark, its second name having the leader `q`.
+    fn row_meets(&self, symbol: Symbol, x: u8, q: u8, mark: Mark) -> bool
+        ensures { LawfulSymbol self.now.counts symbol → x < self.now.counts.names → Decides result (MeetsRow (view T.marks self.now) symbol mark x q) }
+    {
+        (0..symbol.width(self.counts)).any(|y| self.classes.leader(y) == q
+            && self.stands(symbol, x, y, mark))
     }
-    false
-}
 
-// Whether an atom of the symbol has the mark, its names having the leaders of `a` and `b`.
-fn meets<T: BranchTable>(
-    counts: Counts,
-    table: &T,
-    classes: &ClassTable,
-    symbol: Symbol,
-    a: u8,
-    b: u8,
-    mark: Mark,
-) -> bool
-    requires { LawfulSymbol counts symbol }
-    ensures { Decides result (Meets counts (T.BranchTable.marks table.now) (leader_of classes.now) symbol a b mark) }
-{
-    for x in 0..counts.names() {
-        if classes.leader(x) == classes.leader(a)
-            && row_meets(counts, table, classes, symbol, x, b, mark)
-        {
-            return true;
-        }
+    // Whether an atom of the symbol has the mark, its names having the leaders `p` and `q`.
+    fn meets(&self, symbol: Symbol, p: u8, q: u8, mark: Mark) -> bool
+        requires { LawfulSymbol self.now.counts symbol }
+        ensures { Decides result (Meets (view T.marks self.now) symbol mark p q) }
+    {
+        (0..self.counts.names()).any(|x| self.classes.leader(x) == p
+            && self.row_meets(symbol, x, q, mark))
     }
-    false
-}
 
-// The mark of the opposite sign.
-fn opposite(sign: bool) -> Mark
-    ensures { result ≡ signed (not sign) }
-{
-    if sign { Mark::No } else { Mark::Yes }
-}
-
-// Whether the branch clashes around one literal that stands.
-pub fn clashes_at<T: BranchTable>(
-    counts: Counts,
-    table: &T,
-    classes: &ClassTable,
-    atom: Ground,
-    sign: bool,
-) -> bool
-    ensures { Decides result (ClashAt counts (T.BranchTable.marks table.now) (leader_of classes.now) atom sign) }
-{
-    let Some(_) = atom_number(counts, atom) else {
-        return false;
-    };
-    match atom {
-        Ground::Same(a, b) => !sign && classes.leader(a) == classes.leader(b),
-        Ground::Prop(p, a) => {
-            meets(
-                counts,
-                table,
-                classes,
+    // Whether the branch clashes around one literal that stands.
+    pub fn clashes_at(&self, atom: Ground, sign: bool) -> bool
+        ensures { Decides result (ClashAt self.now.counts (T.marks self.now.table.now) (leader_of self.now.classes.now) atom sign) }
+    {
+        if atom_number(self.counts, atom).is_none() {
+            return false;
+        }
+        let classes = self.classes;
+        match atom {
+            Ground::Same(a, b) => !sign && classes.leader(a) == classes.leader(b),
+            Ground::Prop(p, a) => self.meets(
                 Symbol::Prop(p),
-                a,
-                0,
-                opposite(sign),
-            )
-        }
-        Ground::Rel(r, a, b) => {
-            meets(counts, table, classes, Symbol::Rel(r), a, b, opposite(sign))
-        }
-    }
-}
-
-// Whether some place is found in both.
-fn both(first: &[bool], second: &[bool]) -> bool
-    requires { (length first.now ≡ 1024) × (length second.now ≡ 1024) }
-    ensures { Decides result ((k : ℕ) × (slice_index_or first.now k false ≡ true) × (slice_index_or second.now k false ≡ true)) }
-{
-    for k in 0..1024 {
-        if first[k] && second[k] {
-            return true;
+                classes.leader(a),
+                classes.leader(0),
+                Mark::from(!sign),
+            ),
+            Ground::Rel(r, a, b) => self.meets(
+                Symbol::Rel(r),
+                classes.leader(a),
+                classes.leader(b),
+                Mark::from(!sign),
+            ),
         }
     }
-    false
-}
 
-// Whether the symbol's atoms stand yes and no for names with the same leaders.
-fn symbol_clashes<T: BranchTable>(
-    counts: Counts,
-    table: &T,
-    classes: &ClassTable,
-    symbol: Symbol,
-) -> bool
-    requires { LawfulSymbol counts symbol }
-    ensures { Decides result (BothAt counts (T.BranchTable.marks table.now) (leader_of classes.now) symbol) }
-{
-    let mut yes = [false; 1024];
-    gather(counts, table, classes, symbol, Mark::Yes, &mut yes);
-    let mut no = [false; 1024];
-    gather(counts, table, classes, symbol, Mark::No, &mut no);
-    both(&yes, &no)
-}
+    // Whether an atom of the symbol stands no for names for which the symbol holds in the branch's own model.
+    fn symbol_clashes(&self, symbol: Symbol) -> bool
+        requires { LawfulSymbol self.now.counts symbol }
+        ensures { Decides result (SymbolClash (view T.marks self.now) symbol) }
+    {
+        self.holding(symbol).shares(&self.found(symbol, Mark::No))
+    }
 
-fn properties_clash<T: BranchTable>(counts: Counts, table: &T, classes: &ClassTable) -> bool
-    ensures { Decides result ((p : ℕ) × (p < counts.properties) × BothAt counts (T.BranchTable.marks table.now) (leader_of classes.now) (Symbol.Prop p)) }
-{
-    for p in 0..counts.properties() {
-        if symbol_clashes(counts, table, classes, Symbol::Prop(p)) {
-            return true;
-        }
+    // Whether the branch clashes, anywhere.
+    pub fn clashes(&self) -> bool
+        ensures by { Decides result (ClashBy self.now.counts (T.marks self.now.table.now) (leader_of self.now.classes.now)) }
+        ensures clash { Classes self.now.counts (T.marks self.now.table.now) (leader_of self.now.classes.now) → Decides result (Clash self.now.counts (T.marks self.now.table.now)) }
+    {
+        (0..Symbol::count(self.counts)).any(|k| self.symbol_clashes(Symbol::nth(self.counts, k)))
     }
-    false
-}
-
-fn relations_clash<T: BranchTable>(counts: Counts, table: &T, classes: &ClassTable) -> bool
-    ensures { Decides result ((q : ℕ) × (q < counts.relations) × BothAt counts (T.BranchTable.marks table.now) (leader_of classes.now) (Symbol.Rel q)) }
-{
-    for q in 0..counts.relations() {
-        if symbol_clashes(counts, table, classes, Symbol::Rel(q)) {
-            return true;
-        }
-    }
-    false
-}
-
-// Whether a name with the leader of `a` stands not the same.
-fn row_clashes<T: BranchTable>(counts: Counts, table: &T, classes: &ClassTable, a: u8) -> bool
-    requires { a < counts.names }
-    ensures { Decides result (SameNo counts (T.BranchTable.marks table.now) (leader_of classes.now) a) }
-{
-    for b in 0..counts.names() {
-        if classes.leader(a) == classes.leader(b)
-            && mark_of(counts, table, Ground::Same(a, b)) == Mark::No
-        {
-            return true;
-        }
-    }
-    false
-}
-
-fn sames_clash<T: BranchTable>(counts: Counts, table: &T, classes: &ClassTable) -> bool
-    ensures { Decides result ((a : ℕ) × (a < counts.names) × SameNo counts (T.BranchTable.marks table.now) (leader_of classes.now) a) }
-{
-    for a in 0..counts.names() {
-        if row_clashes(counts, table, classes, a) {
-            return true;
-        }
-    }
-    false
-}
-
-// Whether the branch clashes, anywhere.
-pub fn clashes<T: BranchTable>(counts: Counts, table: &T, classes: &ClassTable) -> bool
-    ensures by { Decides result (ClashBy counts (T.BranchTable.marks table.now) (leader_of classes.now)) }
-    ensures clash { Classes counts (T.BranchTable.marks table.now) (leader_of classes.now) → Decides result (Clash counts (T.BranchTable.marks table.now)) }
-{
-    if sames_clash(counts, table, classes) {
-        return true;
-    }
-    if properties_clash(counts, table, classes) {
-        return true;
-    }
-    relations_clash(counts, table, classes)
 }
 
 // A clash read off the leaders, the clash around one literal, and when a class table stays.

@@ -1,72 +1,47 @@
-// For each pair of leaders, whether a symbol's atom has a mark.
-ghost use Rattle.std.specs.Prelude.{◌≡◌, ℕ, ◌<◌, true, false, length, slice_index_or};
-ghost use Rattle.classes.specs.Leaders.{leader_of};
-ghost use Rattle.classes.specs.Symbols.{Gathered, LawfulSymbol, More, Only, RowFound, slot_of, width};
+// The pairs of leaders for which a symbol stands, or holds.
+ghost use Rattle.std.specs.Prelude.{◌≡◌, ◌<◌, Decides};
+ghost use Rattle.classes.specs.Pairs.{Has};
+ghost use Rattle.classes.specs.Symbols.{Holding, LawfulSymbol, Found, mark_in, view, width, atom_with};
 
+use crate::classed::Classed;
 use crate::marks::mark_of;
+use crate::pairs::Pairs;
 use crate::symbol::Symbol;
-use crate::table::ClassTable;
-use syntax::counts::Counts;
 use syntax::types::Mark;
 use tables::table::BranchTable;
 
-// The place for the leaders of two names.
-pub(crate) fn slot(classes: &ClassTable, a: u8, b: u8) -> usize
-    requires { (a < 32) × (b < 32) }
-    ensures at { result ≡ slot_of (leader_of classes.now) a b }
-    ensures near { result < 1024 }
-{
-    classes.leader(a) as usize * 32 + classes.leader(b) as usize
-}
+impl<'a, T: BranchTable> Classed<'a, T> {
+    // Whether the symbol's atom of two names has the mark.
+    pub(crate) fn stands(&self, symbol: Symbol, x: u8, y: u8, mark: Mark) -> bool
+        ensures { LawfulSymbol self.now.counts symbol → x < self.now.counts.names → y < width self.now.counts symbol → Decides result (mark_in (view T.marks self.now) (atom_with symbol x y) ≡ mark) }
+    {
+        mark_of(self.counts, self.table, symbol.atom(x, y)) == mark
+    }
 
-// Adds what is so of one first name.
-fn gather_row<T: BranchTable>(
-    counts: Counts,
-    table: &T,
-    classes: &ClassTable,
-    symbol: Symbol,
-    mark: Mark,
-    x: u8,
-    found: &mut [bool],
-)
-    requires lawful { LawfulSymbol counts symbol × (x < counts.names) }
-    requires whole { length found.old ≡ 1024 }
-    requires only { Only counts (T.BranchTable.marks table.now) (leader_of classes.now) symbol mark found.old }
-    ensures only { Only counts (T.BranchTable.marks table.now) (leader_of classes.now) symbol mark found.new }
-    ensures more { More found.old found.new }
-    ensures all { RowFound counts (T.BranchTable.marks table.now) (leader_of classes.now) symbol mark x (width counts symbol) found.new }
-{
-    for y in 0..symbol.width(counts) {
-        if mark_of(counts, table, symbol.atom(x, y)) == mark {
-            found[slot(classes, x, y)] = true;
+    // The leaders of names for which the symbol's atom has the mark.
+    pub(crate) fn found(&self, symbol: Symbol, mark: Mark) -> Pairs
+        requires { LawfulSymbol self.now.counts symbol }
+        ensures { Found (view T.marks self.now) symbol mark result }
+    {
+        let mut pairs = Pairs::new();
+        for x in 0..self.counts.names() {
+            for y in 0..symbol.width(self.counts) {
+                if self.stands(symbol, x, y, mark) {
+                    pairs.add(self.classes.leader(x), self.classes.leader(y));
+                }
+            }
         }
+        pairs
     }
-}
 
-// Leaves nothing found.
-fn clear(found: &mut [bool])
-    ensures { (k : ℕ) → slice_index_or found.new k false ≡ false }
-{
-    for place in found.iter_mut() {
-        *place = false;
-    }
-}
-
-// Finds the places of the symbol's atoms that have the mark.
-pub(crate) fn gather<T: BranchTable>(
-    counts: Counts,
-    table: &T,
-    classes: &ClassTable,
-    symbol: Symbol,
-    mark: Mark,
-    found: &mut [bool],
-)
-    requires lawful { LawfulSymbol counts symbol }
-    requires whole { length found.old ≡ 1024 }
-    ensures { Gathered counts (T.BranchTable.marks table.now) (leader_of classes.now) symbol mark found.new }
-{
-    clear(found);
-    for x in 0..counts.names() {
-        gather_row(counts, table, classes, symbol, mark, x, found);
+    // The leaders for which the symbol holds in the branch's own model.
+    pub(crate) fn holding(&self, symbol: Symbol) -> Pairs
+        requires { LawfulSymbol self.now.counts symbol }
+        ensures { Holding (view T.marks self.now) symbol result }
+    {
+        match symbol {
+            Symbol::Same => Pairs::diagonal(),
+            Symbol::Prop(_) | Symbol::Rel(_) => self.found(symbol, Mark::Yes),
+        }
     }
 }

@@ -10,14 +10,11 @@ use tables::table::BranchTable;
 
 // The mark of a ground atom; an atom past the table's reach, or that the book does not have, is open.
 pub fn mark_of<T: BranchTable>(counts: Counts, table: &T, g: Ground) -> Mark
-    ensures lawful { LawfulGround counts g → result ≡ mark_at counts (T.BranchTable.marks table.now) g }
+    ensures lawful { LawfulGround counts g → result ≡ mark_at counts (T.marks table.now) g }
     ensures other { (LawfulGround counts g → ⊥) → result ≡ Mark.Open }
 {
     let Some(k) = atom_number(counts, g) else {
         return Mark::Open;
     };
-    match table.ask(k) {
-        Ok(mark) => mark,
-        Err(_) => Mark::Open,
-    }
+    table.ask(k).unwrap_or(Mark::Open)
 }
