@@ -2,13 +2,14 @@
 use Rattle.std.proofs.Common.{◌≡◌, ℕ, ◌+◌, ◌-◌, Bool, true, false, cond, ◌&&◌, eqb, ltb, List, [], ◌∷◌, length, get_or, Some, None, Option, sym, refl, ap, ◌∙◌, subst, arith}
 use Rattle.std.proofs.lemmas.Bool.Decides.{nat_tests}
 use Rattle.std.proofs.lemmas.Bool.{cond_both, eqb-true, and_parts, ltb-true}
+use Rattle.std.specs.Option.{option_and_then}
 use Rattle.syntax.specs.declared.types.Term.{Term}
 use Rattle.syntax.specs.declared.types.Term.TheVariants.{Name, Var}
 use Rattle.syntax.specs.declared.types.Atom.{Atom}
 use Rattle.syntax.specs.declared.types.Atom.TheVariants.{Same, Prop, Rel}
 use Rattle.syntax.specs.declared.counts.Counts.{Counts}
 use Rattle.syntax.specs.Lawful.{LawfulTerm, AtomBy}
-use Rattle.syntax.specs.Codes.{bind, term_of, atom_read, term_code, atom_code, sign_code, Decoded}
+use Rattle.syntax.specs.Codes.{term_of, atom_read, term_code, atom_code, sign_code, Decoded}
 
 abbrev LawfulAtom : Counts → Atom → Type 0
 LawfulAtom c = AtomBy c (LawfulTerm c)
@@ -18,10 +19,10 @@ term_round : (c : Counts) (t : Term) → LawfulTerm c t → term_of c (term_code
 term_round c (Name a) h = let k = c.few in grind (arith, nat_tests)
 term_round c (Var v) h = let e : v + 32 - 32 ≡ v = omega arith in grind (arith, nat_tests)
 
-two_round : (c : Counts) (t u : Term) (f : Term → Term → Atom) → LawfulTerm c t → LawfulTerm c u → bind (term_of c (term_code t)) (λ x. bind (term_of c (term_code u)) (λ y. Some (f x y))) ≡ Some (f t u)
+two_round : (c : Counts) (t u : Term) (f : Term → Term → Atom) → LawfulTerm c t → LawfulTerm c u → option_and_then (λ x. option_and_then (λ y. Some (f x y)) (term_of c (term_code u))) (term_of c (term_code t)) ≡ Some (f t u)
 two_round c t u f h g =
-    ap (λ (o : Option Term). bind o (λ x. bind (term_of c (term_code u)) (λ y. Some (f x y)))) (term_round c t h) ∙
-    ap (λ (o : Option Term). bind o (λ y. Some (f t y))) (term_round c u g)
+    ap (λ (o : Option Term). option_and_then (λ x. option_and_then (λ y. Some (f x y)) (term_of c (term_code u))) o) (term_round c t h) ∙
+    ap (λ (o : Option Term). option_and_then (λ y. Some (f t y)) o) (term_round c u g)
 
 abbrev read : Counts → List ℕ → Option Atom
 read c (k ∷ s ∷ a ∷ b ∷ []) = atom_read c k s a b
@@ -39,7 +40,7 @@ atom_round : (c : Counts) (t : Atom) → LawfulAtom c t → read c (atom_code t)
 atom_round c (Same t u) h = two_round c t u Same h.0 h.1
 atom_round c (Prop p t) h =
     let inside : ltb p c.properties && true ≡ true = grind (arith, nat_tests) in
-    on_true _ _ _ _ inside (ap (λ (o : Option Term). bind o (λ u. Some (Prop p u))) (term_round c t h.1))
+    on_true _ _ _ _ inside (ap (λ (o : Option Term). option_and_then (λ u. Some (Prop p u)) o) (term_round c t h.1))
 atom_round c (Rel r t u) h =
     let inside : ltb r c.relations ≡ true = grind (arith, nat_tests) in
     on_true _ _ _ _ inside (two_round c t u (Rel r) h.1.0 h.1.1)
@@ -48,7 +49,7 @@ atom_round c (Rel r t u) h =
 never : {X Y : Type 0} (x : X) → None ≡ Some x → Y
 never x e = let z : ◌≡◌ {A = ℕ} 0 1 = cc in absurd (omega arith)
 
-bound : {X Y : Type 0} (o : Option X) (f : X → Option Y) (y : Y) → bind o f ≡ Some y → (x : X) × (o ≡ Some x) × (f x ≡ Some y)
+bound : {X Y : Type 0} (o : Option X) (f : X → Option Y) (y : Y) → option_and_then f o ≡ Some y → (x : X) × (o ≡ Some x) × (f x ≡ Some y)
 bound None f y e = never y e
 bound (Some x) f y e = (x, refl, e)
 
@@ -56,9 +57,9 @@ term_back : (c : Counts) (b : ℕ) (t : Term) → term_of c b ≡ Some t → Law
 term_back c b (Name a) e = (grind (arith, nat_tests), grind (arith, nat_tests))
 term_back c b (Var v) e = (grind (arith, nat_tests), grind (arith, nat_tests))
 
-two_back : (c : Counts) (a b : ℕ) (f : Term → Term → Atom) (t : Atom) → bind (term_of c a) (λ x. bind (term_of c b) (λ y. Some (f x y))) ≡ Some t → (x : Term) × (y : Term) × (LawfulTerm c x × (term_code x ≡ a)) × (LawfulTerm c y × (term_code y ≡ b)) × (t ≡ f x y)
+two_back : (c : Counts) (a b : ℕ) (f : Term → Term → Atom) (t : Atom) → option_and_then (λ x. option_and_then (λ y. Some (f x y)) (term_of c b)) (term_of c a) ≡ Some t → (x : Term) × (y : Term) × (LawfulTerm c x × (term_code x ≡ a)) × (LawfulTerm c y × (term_code y ≡ b)) × (t ≡ f x y)
 two_back c a b f t e =
-    let p = bound (term_of c a) (λ x. bind (term_of c b) (λ y. Some (f x y))) t e in
+    let p = bound (term_of c a) (λ x. option_and_then (λ y. Some (f x y)) (term_of c b)) t e in
     let q = bound (term_of c b) (λ y. Some (f p.0 y)) t p.2 in
     let z = q.2 in
     let same : t ≡ f p.0 q.0 = cc in

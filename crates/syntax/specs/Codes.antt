@@ -1,5 +1,6 @@
 -- A literal as five bytes: sign, kind, symbol, first term, second term.
 use Rattle.std.specs.Prelude.{◌≡◌, ℕ, ◌+◌, ◌-◌, Bool, true, false, cond, ◌&&◌, List, [], ◌∷◌, Some, None, Option, ◌==◌, ◌≢◌, nat_lt}
+use Rattle.std.specs.Option.{option_and_then}
 use Rattle.syntax.specs.declared.types.Term.{Term}
 use Rattle.syntax.specs.declared.types.Term.TheVariants.{Name, Var}
 use Rattle.syntax.specs.declared.types.Atom.{Atom}
@@ -46,15 +47,11 @@ abbrev pub Back : Type 0
 Back = (c : Counts) (bytes : List ℕ) (l : Literal) (written : Option (List ℕ)) → Decoded c bytes (Some l) → Encoded c l written → written ≡ Some bytes
 
 -- The reading as tests, part by part; Decoded is what it comes to.
-abbrev pub bind : {X Y : Type 0} → Option X → (X → Option Y) → Option Y
-bind None f = None
-bind (Some x) f = f x
-
 abbrev pub term_of : Counts → ℕ → Option Term
 term_of c b = cond (nat_lt b 32) (cond (nat_lt b c.names) (Some (Name b)) None) (cond (nat_lt b 36) (Some (Var (b - 32))) None)
 
 abbrev pub atom_read : Counts → ℕ → ℕ → ℕ → ℕ → Option Atom
 atom_read c kind symbol first second =
-    cond (kind == 0) (cond (symbol == 0) (bind (term_of c first) (λ t. bind (term_of c second) (λ u. Some (Same t u)))) None)
-    (cond (kind == 1) (cond (nat_lt symbol c.properties && second == 0) (bind (term_of c first) (λ t. Some (Prop symbol t))) None)
-    (cond (kind == 2) (cond (nat_lt symbol c.relations) (bind (term_of c first) (λ t. bind (term_of c second) (λ u. Some (Rel symbol t u)))) None) None))
+    cond (kind == 0) (cond (symbol == 0) (option_and_then (λ t. option_and_then (λ u. Some (Same t u)) (term_of c second)) (term_of c first)) None)
+    (cond (kind == 1) (cond (nat_lt symbol c.properties && second == 0) (option_and_then (λ t. Some (Prop symbol t)) (term_of c first)) None)
+    (cond (kind == 2) (cond (nat_lt symbol c.relations) (option_and_then (λ t. option_and_then (λ u. Some (Rel symbol t u)) (term_of c second)) (term_of c first)) None) None))
