@@ -17,6 +17,7 @@ fn decode_term(counts: Counts, b: u8) -> Option<Term>
     }
 }
 
+// The kinds stay bytes: an enum of them would be the variants of Atom once more.
 fn decode_atom(counts: Counts, kind: u8, symbol: u8, first: u8, second: u8) -> Option<Atom>
     ensures { result ≡ atom_read counts kind symbol first second }
 {
@@ -46,6 +47,7 @@ pub fn decode_literal(counts: Counts, bytes: &[u8]) -> Option<Literal>
     let &[sign, kind, symbol, first, second] = bytes else {
         return None;
     };
+    // A match, since the library converts no byte to a bool.
     let sign = match sign {
         0 => false,
         1 => true,
