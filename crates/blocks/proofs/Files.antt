@@ -1,28 +1,26 @@
 -- A file by its blocks and places: what is written is read, and right blocks make a file.
-use Rattle.std.proofs.Common.{◌≡◌, ℕ, zero, suc, ◌+◌, ◌-◌, ◌*◌, ◌/◌, ◌%◌, ◌<◌, ◌≤◌, Bool, true, false, ◌&&◌, eqb, List, [], ◌∷◌, map, length, get_or, take, Decides, sym, refl, ap, ◌∙◌, subst, ap₂, add-one, arith}
+use Rattle.std.proofs.Common.{◌≡◌, ℕ, zero, suc, ◌+◌, ◌-◌, ◌*◌, ◌/◌, ◌%◌, ◌<◌, ◌≤◌, Bool, true, false, eqb, List, [], length, get_or, take, sym, refl, ap, ◌∙◌, subst, ap₂, add-one, arith}
 use Rattle.std.specs.List.{range_with_len, flat_map, AllByRecursion}
-use Rattle.std.proofs.lemmas.List.{take_all, take-take, get_or-take, ext_get_or}
+use Rattle.std.proofs.lemmas.List.{take_all, ext_get_or}
 use Rattle.std.proofs.ByRecursion.{All-get_or, All-from_get_or}
 use Rattle.std.proofs.lemmas.List.FromFn.{length-range_with_len, get_or-range_with_len, length-map-range_with_len, get_or-map-range_with_len, fill_by_all}
-use Rattle.std.proofs.lemmas.Bool.Decides.{nat_tests, Decides-like, Decides-and, Decides-eqb}
-use Rattle.std.proofs.lemmas.Bool.{false≢true, cond-true, cond_both, and_from, and_parts}
+use Rattle.std.proofs.lemmas.Bool.Decides.{nat_tests}
 use Rattle.syntax.specs.declared.types.Term.{Term}
 use Rattle.syntax.specs.declared.types.Term.TheVariants.{Name, Var}
 use Rattle.syntax.specs.declared.types.Atom.{Atom}
 use Rattle.syntax.specs.declared.types.Atom.TheVariants.{Same, Prop, Rel}
 use Rattle.syntax.specs.declared.types.Literal.{Literal}
 use Rattle.syntax.specs.declared.counts.Counts.{Counts}
-use Rattle.syntax.specs.Lawful.{Lawful, LawfulTerm, LawfulLiteral, AtomBy, lawful_literal}
-use Rattle.syntax.specs.Decided.{literal_decides}
+use Rattle.syntax.specs.Lawful.{Lawful, LawfulTerm, LawfulLiteral, AtomBy}
 use Rattle.syntax.specs.Codes.{term_code, atom_code, sign_code, literal_code}
-use Rattle.blocks.specs.Format.{padded, clause_bytes, front, head_front, clauses_front, checked, blocks_for, share, block_of, file_of}
-use Rattle.blocks.specs.Reading.{part, term_from, atom_from, literal_from, same_bytes, is_code, filler, literal_of_bytes, size_in, clause_in, clauses_at, clauses_in, counts_of_block, number_in, place_of}
+use Rattle.blocks.specs.Format.{clause_bytes, head_front, clauses_front, checked, blocks_for, share, block_of, file_of}
+use Rattle.blocks.specs.Reading.{part, term_from, atom_from, literal_from, clause_in, clauses_at, place_of}
 use Rattle.blocks.specs.Layout.{IsFile, LengthRight, HeadIs, Clauses, ChecksRight, CheckRight, LayoutRight, AllRight, FirstWrong, Right, block_at, block_count, due}
 use Rattle.blocks.specs.Book.{Exact}
 use Rattle.blocks.proofs.Pieces.{gather, part_part, part_front}
 use Rattle.blocks.proofs.Written.{literal_place, clause_place, head_length, clauses_length, checked_take, checked_right, checked_from, share_lawful, share_count, share_few, share_at, file_length, file_block}
 use Rattle.blocks.proofs.Leaves.{blank}
-use Rattle.blocks.proofs.Heads.{head_same, counts_same}
+use Rattle.blocks.proofs.Heads.{head_same}
 
 -- what was written of a literal and of a clause is read
 term_back : (c : Counts) (t : Term) → LawfulTerm c t → term_from (term_code t) ≡ t
@@ -41,42 +39,19 @@ sign_back : (s : Bool) → eqb (sign_code s) 1 ≡ s
 sign_back true = refl
 sign_back false = refl
 
-from_code : (c : Counts) (l : Literal) → LawfulLiteral c l → literal_from (literal_code l) ≡ l
+pub from_code : (c : Counts) (l : Literal) → LawfulLiteral c l → literal_from (literal_code l) ≡ l
 unfolding literal_from
 from_code c l h =
     ap₂ (λ (s : Bool) (a : Atom). record { sign = s; atom = a }) (sign_back l.sign) (atom_back c l.atom h)
 
-pub bytes_decide : (xs ys : List ℕ) → Decides (same_bytes xs ys) (xs ≡ ys)
-bytes_decide [] [] = (λ _. refl, λ _. refl)
-bytes_decide [] (y ∷ ys) = (λ e. absurd (false≢true e), λ e. let z : ◌≡◌ {A = ℕ} 0 1 = cc in absurd (omega arith))
-bytes_decide (x ∷ xs) [] = (λ e. absurd (false≢true e), λ e. let z : ◌≡◌ {A = ℕ} 0 1 = cc in absurd (omega arith))
-bytes_decide (x ∷ xs) (y ∷ ys) =
-    Decides-like (eqb x y && same_bytes xs ys) (λ p. ap₂ ◌∷◌ p.0 p.1) (λ e. (cc, cc)) (Decides-and (eqb x y) (same_bytes xs ys) (Decides-eqb x y) (bytes_decide xs ys))
+-- the bytes of a lawful literal are read as it
+pub literal_back : (c : Counts) (l : Literal) (bytes : List ℕ) → LawfulLiteral c l → literal_code l ≡ bytes → literal_from bytes ≡ l
+literal_back c l bytes h e = ap literal_from (sym e) ∙ from_code c l h
 
--- the bytes of a lawful literal are read as it, and all others as the filler
-pub literal_back : (c : Counts) (l : Literal) (bytes : List ℕ) → LawfulLiteral c l → literal_code l ≡ bytes → literal_of_bytes c bytes ≡ l
-unfolding literal_of_bytes
-literal_back c l bytes h e =
-    let same : literal_from bytes ≡ l = ap literal_from (sym e) ∙ from_code c l h in
-    let P : Literal → Type 0 = λ x. LawfulLiteral c x in
-    let lawful = (literal_decides c (literal_from bytes)).1 (subst P (sym same) h) in
-    let code = (bytes_decide (literal_code (literal_from bytes)) bytes).1 (ap literal_code same ∙ e) in
-    cond-true (is_code c bytes) (literal_from bytes) filler (and_from (lawful_literal c (literal_from bytes)) (same_bytes (literal_code (literal_from bytes)) bytes) lawful code) ∙ same
-
-pub filler_back : (c : Counts) (bytes : List ℕ) → ((l : Literal) → LawfulLiteral c l → literal_code l ≡ bytes → ⊥) → literal_of_bytes c bytes ≡ filler
-unfolding literal_of_bytes
-filler_back c bytes none =
-    cond_both (is_code c bytes) (literal_from bytes) filler (λ x. x ≡ filler)
-    (λ e. let p = and_parts (lawful_literal c (literal_from bytes)) (same_bytes (literal_code (literal_from bytes)) bytes) e in absurd (none (literal_from bytes) ((literal_decides c (literal_from bytes)).0 p.0) ((bytes_decide (literal_code (literal_from bytes)) bytes).0 p.1)))
-    (λ _. refl)
-
-pub clause_back : (c : Counts) (cl : List Literal) → Lawful c cl → clause_in c (clause_bytes cl) ≡ cl
+pub clause_back : (c : Counts) (cl : List Literal) → Lawful c cl → clause_in (clause_bytes cl) ≡ cl
 unfolding clause_in clause_bytes
 clause_back c cl h =
-    let f = λ (j : ℕ). literal_of_bytes c (part (2 + 5 * j) 5 (clause_bytes cl)) in
-    let n : size_in (length cl) ≡ length cl = omega (arith, h.some, h.few) in
-    ap (λ (k : ℕ). map f (range_with_len 0 k)) n ∙
-    sym (fill_by_all f cl (length cl) blank refl (λ k i. sym (literal_back c (get_or cl k blank) (part (2 + 5 * k) 5 (clause_bytes cl)) (All-get_or (LawfulLiteral c) cl k blank i h.each) (sym (literal_place cl k blank i)))))
+    sym (fill_by_all (λ (j : ℕ). literal_from (part (2 + 5 * j) 5 (clause_bytes cl))) cl (length cl) blank refl (λ k i. sym (literal_back c (get_or cl k blank) (part (2 + 5 * k) 5 (clause_bytes cl)) (All-get_or (LawfulLiteral c) cl k blank i h.each) (sym (literal_place cl k blank i)))))
 
 -- clause k of a clause block, and clause 12 b + k of a file
 pub block_place : (c : Counts) (cls : List (List Literal)) (block : List ℕ) (k : ℕ) → AllByRecursion (Lawful c) cls → take 510 block ≡ clauses_front cls → k < length cls → k < 12 → part (4 + 42 * k) 42 block ≡ clause_bytes (get_or cls k [])
@@ -108,10 +83,10 @@ file_place c cls i a h =
     ap clause_bytes (share_at cls b k (omega arith) ∙ ap (λ (j : ℕ). get_or cls j []) (sym (split i)))
 
 -- what was written of clauses is read
-pub clauses_back : (c : Counts) (cls : List (List Literal)) → AllByRecursion (Lawful c) cls → clauses_at c (length cls) (file_of c cls) ≡ cls
+pub clauses_back : (c : Counts) (cls : List (List Literal)) → AllByRecursion (Lawful c) cls → clauses_at (length cls) (file_of c cls) ≡ cls
 unfolding clauses_at
 clauses_back c cls a =
-    sym (fill_by_all (λ i. clause_in c (part (place_of i) 42 (file_of c cls))) cls (length cls) [] refl (λ i h. sym (ap (clause_in c) (file_place c cls i a h) ∙ clause_back c (get_or cls i []) (All-get_or (Lawful c) cls i [] h a))))
+    sym (fill_by_all (λ i. clause_in (part (place_of i) 42 (file_of c cls))) cls (length cls) [] refl (λ i h. sym (ap clause_in (file_place c cls i a h) ∙ clause_back c (get_or cls i []) (All-get_or (Lawful c) cls i [] h a))))
 
 -- a file is right
 abbrev file_count : List (List Literal) → ℕ
@@ -162,43 +137,43 @@ file_right bytes c cls w =
 abbrev Blocks : List ℕ → Counts → ℕ → Type 0
 Blocks bytes c n = (b : ℕ) → b < blocks_for n → Clauses c (due n b) (block_at bytes (suc b))
 
-clauses_count : (c : Counts) (n : ℕ) (bytes : List ℕ) → length (clauses_at c n bytes) ≡ n
+pub clauses_count : (n : ℕ) (bytes : List ℕ) → length (clauses_at n bytes) ≡ n
 unfolding clauses_at
-clauses_count c n bytes = length-map-range_with_len (λ i. clause_in c (part (place_of i) 42 bytes)) 0 n
+clauses_count n bytes = length-map-range_with_len (λ i. clause_in (part (place_of i) 42 bytes)) 0 n
 
-read_clause : (c : Counts) (n : ℕ) (bytes : List ℕ) (i : ℕ) → i < n → get_or (clauses_at c n bytes) i [] ≡ clause_in c (part (place_of i) 42 bytes)
+read_clause : (n : ℕ) (bytes : List ℕ) (i : ℕ) → i < n → get_or (clauses_at n bytes) i [] ≡ clause_in (part (place_of i) 42 bytes)
 unfolding clauses_at
-read_clause c n bytes i h = get_or-map-range_with_len (λ j. clause_in c (part (place_of j) 42 bytes)) 0 n i i [] h (omega arith)
+read_clause n bytes i h = get_or-map-range_with_len (λ j. clause_in (part (place_of j) 42 bytes)) 0 n i i [] h (omega arith)
 
-read_at : (bytes : List ℕ) (c : Counts) (n b k : ℕ) (w : Clauses c (due n b) (block_at bytes (suc b))) → b < blocks_for n → k < due n b → get_or (clauses_at c n bytes) (12 * b + k) [] ≡ get_or w.clauses k []
+read_at : (bytes : List ℕ) (c : Counts) (n b k : ℕ) (w : Clauses c (due n b) (block_at bytes (suc b))) → b < blocks_for n → k < due n b → get_or (clauses_at n bytes) (12 * b + k) [] ≡ get_or w.clauses k []
 read_at bytes c n b k w h i =
     let own = w.clauses in
     let within : k < length own = omega (arith, w.count) in
-    read_clause c n bytes (12 * b + k) (omega arith) ∙
-    ap (clause_in c) (bytes_place bytes b k (omega arith) ∙ block_place c own (block_at bytes (suc b)) k w.lawful w.says within (omega arith)) ∙
+    read_clause n bytes (12 * b + k) (omega arith) ∙
+    ap clause_in (bytes_place bytes b k (omega arith) ∙ block_place c own (block_at bytes (suc b)) k w.lawful w.says within (omega arith)) ∙
     clause_back c (get_or own k []) (All-get_or (Lawful c) own k [] within w.lawful)
 
-share_is : (bytes : List ℕ) (c : Counts) (n b : ℕ) (w : Clauses c (due n b) (block_at bytes (suc b))) → b < blocks_for n → share b (clauses_at c n bytes) ≡ w.clauses
+share_is : (bytes : List ℕ) (c : Counts) (n b : ℕ) (w : Clauses c (due n b) (block_at bytes (suc b))) → b < blocks_for n → share b (clauses_at n bytes) ≡ w.clauses
 share_is bytes c n b w h =
-    let cls = clauses_at c n bytes in
-    let size : length (share b cls) ≡ due n b = share_count cls b ∙ ap (λ (m : ℕ). due m b) (clauses_count c n bytes) in
+    let cls = clauses_at n bytes in
+    let size : length (share b cls) ≡ due n b = share_count cls b ∙ ap (λ (m : ℕ). due m b) (clauses_count n bytes) in
     ext_get_or [] (share b cls) w.clauses (size ∙ sym w.count) (λ k i. share_at cls b k (omega arith) ∙ read_at bytes c n b k w h (omega arith))
 
-block_is : (bytes : List ℕ) (c : Counts) (n : ℕ) → HeadIs bytes c n → AllRight (ChecksRight bytes) (block_count bytes) → Blocks bytes c n → (b : ℕ) → b < 1 + blocks_for n → block_at bytes b ≡ block_of c (clauses_at c n bytes) b
+block_is : (bytes : List ℕ) (c : Counts) (n : ℕ) → HeadIs bytes c n → AllRight (ChecksRight bytes) (block_count bytes) → Blocks bytes c n → (b : ℕ) → b < 1 + blocks_for n → block_at bytes b ≡ block_of c (clauses_at n bytes) b
 unfolding block_of
 block_is bytes c n head checks blocks zero h =
     checked_from (block_at bytes 0) (head_front c n) (checks 0 (omega (arith, head.fits))) head.says ∙
-    ap (λ (m : ℕ). checked (head_front c m)) (sym (clauses_count c n bytes))
+    ap (λ (m : ℕ). checked (head_front c m)) (sym (clauses_count n bytes))
 block_is bytes c n head checks blocks (suc b) h =
     let w = blocks b (omega arith) in
     checked_from (block_at bytes (suc b)) (clauses_front w.clauses) (checks (suc b) (omega (arith, head.fits))) w.says ∙
     ap (λ own. checked (clauses_front own)) (sym (share_is bytes c n b w (omega arith)))
 
-pub made_file : (bytes : List ℕ) (c : Counts) (n : ℕ) → LengthRight bytes → HeadIs bytes c n → AllRight (ChecksRight bytes) (block_count bytes) → Blocks bytes c n → IsFile bytes c (clauses_at c n bytes)
+pub made_file : (bytes : List ℕ) (c : Counts) (n : ℕ) → LengthRight bytes → HeadIs bytes c n → AllRight (ChecksRight bytes) (block_count bytes) → Blocks bytes c n → IsFile bytes c (clauses_at n bytes)
 unfolding file_of
 made_file bytes c n size head checks blocks =
-    let cls = clauses_at c n bytes in
-    let count = clauses_count c n bytes in
+    let cls = clauses_at n bytes in
+    let count = clauses_count n bytes in
     let m = 1 + blocks_for n in
     let long : length (range_with_len 0 m) ≡ m = length-range_with_len 0 m in
     let all : length bytes ≤ 512 * length (range_with_len 0 m) = omega (arith, head.fits, size.1) in
@@ -228,7 +203,7 @@ pub right_file : (bytes : List ℕ) → Right bytes → (c : Counts) × (cls : L
 right_file bytes r =
     let l = r.layouts 0 (omega (arith, r.sized)) in
     let head = l.2 in
-    (l.0, clauses_at l.0 l.1 bytes, made_file bytes l.0 l.1 r.sized head r.checks (λ b h. settled bytes l.0 l.1 b head (r.layouts (suc b) (omega (arith, head.fits)))))
+    (l.0, clauses_at l.1 bytes, made_file bytes l.0 l.1 r.sized head r.checks (λ b h. settled bytes l.0 l.1 b head (r.layouts (suc b) (omega (arith, head.fits)))))
 
 -- a file is that of one list only
 pub one_file : (bytes : List ℕ) (c d : Counts) (cls own : List (List Literal)) → IsFile bytes c cls → IsFile bytes d own → (c ≡ d) × (cls ≡ own)
@@ -237,32 +212,7 @@ one_file bytes c d cls own v w =
     let h = subst (λ xs. P xs c (length cls)) (sym v.written) (file_head c cls v.lawful v.few) in
     let k = subst (λ xs. P xs d (length own)) (sym w.written) (file_head d own w.lawful w.few) in
     let e = head_same bytes c d (length cls) (length own) h k in
-    (e.0, sym (clauses_back c cls v.lawful) ∙ ap (λ (q : Counts). clauses_at q (length cls) (file_of c cls)) e.0 ∙ ap₂ (clauses_at d) e.1 (sym v.written ∙ w.written) ∙ clauses_back d own w.lawful)
-
--- what the head says is read from its places
-pub head_counts : (bytes : List ℕ) (c : Counts) (n : ℕ) → HeadIs bytes c n → (counts_of_block bytes ≡ c) × (number_in bytes ≡ n)
-unfolding head_front front padded counts_of_block number_in
-head_counts bytes c n h =
-    let at : (k : ℕ) → k < 510 → get_or bytes k 0 ≡ get_or (head_front c n) k 0 = λ k i. sym (get_or-take 510 bytes k 0 i) ∙ ap (λ xs. get_or xs k 0) (sym (take-take 510 512 bytes (omega arith)) ∙ h.says) in
-    let p = at 4 (omega arith) in
-    let q = at 5 (omega arith) in
-    let r = at 6 (omega arith) in
-    let s = at 7 (omega arith) in
-    let t = at 8 (omega arith) in
-    let few = h.few in
-    let u = c.some in
-    let v = c.few in
-    let w = c.props in
-    let x = c.rels in
-    (counts_same (counts_of_block bytes) c (omega arith) (omega arith) (omega arith), omega arith)
-
--- a block book over right blocks means what its file was written from
-pub book_file : (bytes : List ℕ) (c : Counts) (n : ℕ) → LengthRight bytes → HeadIs bytes c n → AllRight (ChecksRight bytes) (block_count bytes) → Blocks bytes c n → IsFile bytes (counts_of_block bytes) (clauses_in bytes)
-book_file bytes c n size head checks blocks =
-    let e = head_counts bytes c n head in
-    let P : Counts → Type 0 = λ d. IsFile bytes d (clauses_at d n bytes) in
-    let Q : ℕ → Type 0 = λ m. IsFile bytes (counts_of_block bytes) (clauses_at (counts_of_block bytes) m bytes) in
-    subst Q (sym e.1) (subst P (sym e.0) (made_file bytes c n size head checks blocks))
+    (e.0, sym (clauses_back c cls v.lawful) ∙ ap₂ clauses_at e.1 (sym v.written ∙ w.written) ∙ clauses_back d own w.lawful)
 
 -- the first wrong clause block is the first wrong layout
 layouts_below : (bytes : List ℕ) (c : Counts) (n b : ℕ) → HeadIs bytes c n → AllRight (λ k. Clauses c (due n k) (block_at bytes (suc k))) b → AllRight (LayoutRight bytes) (suc b)

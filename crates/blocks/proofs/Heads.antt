@@ -1,7 +1,7 @@
 -- What the bytes of a head say.
-use Rattle.std.proofs.Common.{◌≡◌, ℕ, ◌+◌, ◌-◌, ◌*◌, ◌/◌, ◌%◌, ◌<◌, ◌≤◌, List, [], ◌∷◌, ◌++◌, length, get_or, take, drop, replicate, sym, refl, ap, ◌∙◌, subst, ap₂, arith}
+use Rattle.std.proofs.Common.{◌≡◌, ℕ, ◌+◌, ◌-◌, ◌*◌, ◌/◌, ◌%◌, ◌<◌, ◌≤◌, List, [], ◌∷◌, length, get_or, take, drop, replicate, ◌≢◌, sym, refl, ap, ◌∙◌, subst, arith}
 use native.Mathlib.Bridge.{le_prop}
-use Rattle.std.proofs.lemmas.List.{take-append-drop, length-drop}
+use Rattle.std.proofs.lemmas.List.{length-drop}
 use Rattle.syntax.specs.declared.counts.Counts.{Counts}
 use Rattle.syntax.specs.Limits.{Are}
 use Rattle.blocks.specs.Format.{padded, head_contents, front, head_front}
@@ -54,22 +54,18 @@ body_made b rest c n h e a k low few z =
     let front : take 5 b ≡ head_contents c n = five b (omega arith) ∙ cc in
     (few, padded_from 506 5 (head_contents c n) b refl front (sym e ∙ z ∙ ap (λ j. replicate j 0) long))
 
--- block 0 as a whole
-pub head_parts : (block rest : List ℕ) (kind count : ℕ) (c : Counts) (n : ℕ) → block ≡ 75 ∷ (66 ∷ (kind ∷ (count ∷ rest))) → take 510 block ≡ head_front c n → (kind ≡ 0) × (count ≡ 0) × (take 506 rest ≡ padded 506 (head_contents c n))
+-- block 0 as a whole, whose contents are body
+pub head_none : (block : List ℕ) (c : Counts) (n : ℕ) → ((body : List ℕ) → take 510 block ≢ 75 ∷ (66 ∷ (0 ∷ (0 ∷ body)))) → take 510 block ≡ head_front c n → ⊥
 unfolding head_front front
-head_parts block rest kind count c n e s =
-    let t = ap (take 510) (sym e) ∙ s in
-    (ap (λ xs. get_or xs 2 0) t, ap (λ xs. get_or xs 3 0) t, ap (drop 4) t)
+head_none block c n wrong s = wrong (padded 506 (head_contents c n)) s
 
-pub head_letters : (block : List ℕ) (c : Counts) (n : ℕ) → ((kind count : ℕ) (rest : List ℕ) → block ≡ 75 ∷ (66 ∷ (kind ∷ (count ∷ rest))) → ⊥) → take 510 block ≡ head_front c n → ⊥
+pub head_body : (block body : List ℕ) (c : Counts) (n : ℕ) → take 510 block ≡ 75 ∷ (66 ∷ (0 ∷ (0 ∷ body))) → take 510 block ≡ head_front c n → body ≡ padded 506 (head_contents c n)
 unfolding head_front front
-head_letters block c n wrong s =
-    wrong 0 0 (padded 506 (head_contents c n) ++ drop 510 block) (sym (take-append-drop 510 block) ∙ ap (λ xs. xs ++ drop 510 block) s)
+head_body block body c n e s = ap (drop 4) (sym e ∙ s)
 
-pub head_made : (block rest body : List ℕ) (kind count : ℕ) (c : Counts) (n : ℕ) → block ≡ 75 ∷ (66 ∷ (kind ∷ (count ∷ rest))) → kind ≡ 0 → count ≡ 0 → body ≡ take 506 rest → body ≡ padded 506 (head_contents c n) → take 510 block ≡ head_front c n
+pub head_made : (block body : List ℕ) (c : Counts) (n : ℕ) → take 510 block ≡ 75 ∷ (66 ∷ (0 ∷ (0 ∷ body))) → body ≡ padded 506 (head_contents c n) → take 510 block ≡ head_front c n
 unfolding head_front front
-head_made block rest body kind count c n e k m b s =
-    ap (take 510) e ∙ ap₂ (λ x y. 75 ∷ (66 ∷ (x ∷ (y ∷ take 506 rest)))) k m ∙ ap (λ xs. 75 ∷ (66 ∷ (0 ∷ (0 ∷ xs)))) (sym b ∙ s)
+head_made block body c n e s = e ∙ ap (λ xs. 75 ∷ (66 ∷ (0 ∷ (0 ∷ xs)))) s
 
 -- the contents settle the counts and the number
 abbrev counted : (n p r : ℕ) → 1 ≤ n → n ≤ 32 → p ≤ 32 → r ≤ 8 → Counts

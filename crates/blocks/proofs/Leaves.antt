@@ -1,8 +1,8 @@
 -- What the tests of a block's parts come to.
-use Rattle.std.proofs.Common.{◌≡◌, ℕ, ◌+◌, ◌-◌, ◌*◌, ◌/◌, ◌%◌, ◌<◌, ◌≤◌, false, List, [], ◌∷◌, ◌++◌, length, get_or, take, drop, replicate, sum, sym, refl, ap, ◌∙◌, ap₂, arith}
+use Rattle.std.proofs.Common.{◌≡◌, ℕ, ◌-◌, ◌*◌, ◌/◌, ◌%◌, ◌<◌, ◌≤◌, false, List, [], ◌∷◌, length, get_or, take, drop, replicate, sum, ◌≢◌, sym, refl, ap, ◌∙◌, ap₂, arith}
 use native.Mathlib.Nat.{mul-div_cancel_left}
 use Rattle.std.specs.List.{flat_map, AllByRecursion}
-use Rattle.std.proofs.lemmas.List.{drop_more, drop_all, take_more, replicate_more, take_rest, take-append-drop, length-take-le, length-drop}
+use Rattle.std.proofs.lemmas.List.{drop_more, drop_all, length-take-le, length-drop}
 use Rattle.syntax.specs.declared.types.Atom.TheVariants.{Same}
 use Rattle.syntax.specs.declared.types.Term.TheVariants.{Name}
 use Rattle.syntax.specs.declared.types.Literal.{Literal}
@@ -10,7 +10,6 @@ use Rattle.syntax.specs.declared.counts.Counts.{Counts}
 use Rattle.syntax.specs.Lawful.{Lawful, LawfulLiteral}
 use Rattle.syntax.specs.Codes.{literal_code}
 use Rattle.blocks.specs.Format.{padded, two_bytes, clause_bytes, front, clauses_front}
-use Rattle.blocks.specs.Reading.{part}
 use Rattle.blocks.specs.Layout.{CheckRight, Clauses}
 use Rattle.blocks.specs.Parts.{Made, MadeOne}
 use Rattle.blocks.proofs.Pieces.{joined_length}
@@ -34,24 +33,6 @@ check_low block s h q r = ap (λ xs. get_or xs 0 0) (sym (tail block h) ∙ r �
 
 pub check_high : (block : List ℕ) (s : ℕ) → length block ≡ 512 → s ≡ sum (take 510 block) % 65536 → CheckRight block → get_or block 511 0 ≡ s / 256
 check_high block s h q r = ap (λ xs. get_or xs 1 0) (sym (tail block h) ∙ r ∙ ap two_bytes (sym q))
-
--- one zero more
-pub zeros_more : (xs : List ℕ) (i : ℕ) → i < length xs → take i xs ≡ replicate i 0 → get_or xs i 0 ≡ 0 → take (i + 1) xs ≡ replicate (i + 1) 0
-zeros_more xs i h e z = take_more xs i 0 h ∙ ap₂ (λ ys y. ys ++ y ∷ []) e z ∙ replicate_more i 0
-
--- a list that begins with the letters
-pub letters : (s : List ℕ) → 4 ≤ length s → get_or s 0 0 ≡ 75 → get_or s 1 0 ≡ 66 → s ≡ 75 ∷ (66 ∷ (get_or s 2 0 ∷ (get_or s 3 0 ∷ take (length s - 4) (drop 4 s))))
-letters [] h e f = absurd (omega arith)
-letters (a ∷ []) h e f = absurd (omega arith)
-letters (a ∷ b ∷ []) h e f = absurd (omega arith)
-letters (a ∷ b ∷ k ∷ []) h e f = absurd (omega arith)
-letters (a ∷ b ∷ k ∷ n ∷ t) h e f =
-    let r = take_rest (a ∷ b ∷ k ∷ n ∷ t) 4 in
-    ap (λ (x : ℕ). x ∷ b ∷ k ∷ n ∷ t) e ∙ ap (λ (x : ℕ). 75 ∷ x ∷ k ∷ n ∷ t) f ∙ ap (λ (x : List ℕ). 75 ∷ 66 ∷ k ∷ n ∷ x) (sym r)
-
--- a part as the code cuts it out
-pub cut : (p n : ℕ) (xs : List ℕ) → take (p + n - p) (drop p xs) ≡ part p n xs
-cut p n xs = ap (λ k. take k (drop p xs)) (omega arith)
 
 -- a list of two or more
 pub two : (b : List ℕ) → 2 ≤ length b → b ≡ get_or b 0 0 ∷ get_or b 1 0 ∷ drop 2 b
@@ -104,42 +85,40 @@ clause_made c b places used unused h e f g low high z m q =
     let whole : b ≡ clause_bytes cl = two b (omega arith) ∙ ap₂ (λ x xs. x ∷ get_or b 1 0 ∷ xs) (sym count) (sym e ∙ body) ∙ ap (λ x. length cl ∷ x ∷ padded 40 (flat_map literal_code cl)) z in
     (cl, record { some = omega (arith, count); few = omega (arith, count); each = m.1 }, whole)
 
--- the same of a clause block
-pub clauses_parts : (c : Counts) (n : ℕ) (block rest : List ℕ) (kind count : ℕ) → block ≡ 75 ∷ (66 ∷ (kind ∷ (count ∷ rest))) → (w : Clauses c n block) → (kind ≡ 1) × (count ≡ n) × (take 506 rest ≡ padded 506 (flat_map clause_bytes w.clauses))
+-- the same of a clause block, whose contents are body
+pub clauses_none : (c : Counts) (n : ℕ) (block : List ℕ) → ((body : List ℕ) → take 510 block ≢ 75 ∷ (66 ∷ (1 ∷ (n ∷ body)))) → Clauses c n block → ⊥
 unfolding clauses_front front
-clauses_parts c n block rest kind count e w =
-    let s = ap (take 510) (sym e) ∙ w.says in
-    (ap (λ xs. get_or xs 2 0) s, ap (λ xs. get_or xs 3 0) s ∙ w.count, ap (drop 4) s)
+clauses_none c n block wrong w =
+    let body = padded 506 (flat_map clause_bytes w.clauses) in
+    wrong body (w.says ∙ ap (λ k. 75 ∷ 66 ∷ 1 ∷ k ∷ body) w.count)
 
-pub clauses_letters : (c : Counts) (n : ℕ) (block : List ℕ) → ((kind count : ℕ) (rest : List ℕ) → block ≡ 75 ∷ (66 ∷ (kind ∷ (count ∷ rest))) → ⊥) → Clauses c n block → ⊥
-unfolding clauses_front front
-clauses_letters c n block wrong w =
-    wrong 1 (length w.clauses) (padded 506 (flat_map clause_bytes w.clauses) ++ drop 510 block) (sym (take-append-drop 510 block) ∙ ap (λ xs. xs ++ drop 510 block) w.says)
+module _ (c : Counts) (n : ℕ) (block body : List ℕ) (size : length block ≡ 512) (front : take 510 block ≡ 75 ∷ (66 ∷ (1 ∷ (n ∷ body)))) where
+  pub whole : length body ≡ 506
+  whole = omega (arith, ap length front, length-take-le 510 block (omega arith))
 
-pub clauses_used : (c : Counts) (n : ℕ) (block rest body used : List ℕ) (kind count : ℕ) → block ≡ 75 ∷ (66 ∷ (kind ∷ (count ∷ rest))) → body ≡ take 506 rest → used ≡ take (42 * n) body → Clauses c n block → Made clause_bytes (Lawful c) used
-clauses_used c n block rest body used kind count e b f w =
-    let cls = w.clauses in
-    let p = clauses_parts c n block rest kind count e w in
-    let size : length (flat_map clause_bytes cls) ≡ 42 * n = joined_length clause_bytes 42 cls (fortytwos c cls w.lawful) ∙ ap (λ k. 42 * k) w.count in
-    (cls, w.lawful, f ∙ ap (take (42 * n)) (b ∙ p.2) ∙ padded_take 506 (42 * n) (flat_map clause_bytes cls) size)
+  of_clauses : (w : Clauses c n block) → body ≡ padded 506 (flat_map clause_bytes w.clauses)
+  unfolding clauses_front front
+  of_clauses w = ap (drop 4) (sym front ∙ w.says)
 
-pub clauses_unused : (c : Counts) (n : ℕ) (block rest body unused : List ℕ) (kind count : ℕ) → length block ≡ 512 → block ≡ 75 ∷ (66 ∷ (kind ∷ (count ∷ rest))) → body ≡ take 506 rest → unused ≡ drop (42 * n) body → Clauses c n block → unused ≡ replicate (length unused) 0
-clauses_unused c n block rest body unused kind count h e b f w =
-    let cls = w.clauses in
-    let p = clauses_parts c n block rest kind count e w in
-    let size : length (flat_map clause_bytes cls) ≡ 42 * n = joined_length clause_bytes 42 cls (fortytwos c cls w.lawful) ∙ ap (λ k. 42 * k) w.count in
-    let whole : length body ≡ 506 = ap length b ∙ length-take-le 506 rest (omega (arith, ap length e)) in
-    let long : length unused ≡ 506 - 42 * n = ap length f ∙ length-drop (42 * n) body ∙ omega arith in
-    f ∙ ap (drop (42 * n)) (b ∙ p.2) ∙ padded_drop 506 (42 * n) (flat_map clause_bytes cls) size ∙ ap (λ k. replicate k 0) (sym long)
+  clauses_long : (w : Clauses c n block) → length (flat_map clause_bytes w.clauses) ≡ 42 * n
+  clauses_long w =
+      joined_length clause_bytes 42 w.clauses (fortytwos c w.clauses w.lawful) ∙ ap (λ k. 42 * k) w.count
 
-pub clauses_made : (c : Counts) (n : ℕ) (block rest body used unused : List ℕ) (kind count : ℕ) → length block ≡ 512 → block ≡ 75 ∷ (66 ∷ (kind ∷ (count ∷ rest))) → body ≡ take 506 rest → used ≡ take (42 * n) body → unused ≡ drop (42 * n) body → n ≤ 12 → kind ≡ 1 → count ≡ n → Made clause_bytes (Lawful c) used → unused ≡ replicate (length unused) 0 → Clauses c n block
-unfolding clauses_front front
-clauses_made c n block rest body used unused kind count h e b f g few k1 cn m q =
-    let cls = m.0 in
-    let whole : length body ≡ 506 = ap length b ∙ length-take-le 506 rest (omega (arith, ap length e)) in
-    let size : length used ≡ 42 * n = ap length f ∙ length-take-le (42 * n) body (omega arith) in
-    let amount : length cls ≡ n = made_count clause_bytes 42 cls n used (fortytwos c cls m.1) (omega arith) m.2 size in
-    let long : length unused ≡ 506 - 42 * n = ap length g ∙ length-drop (42 * n) body ∙ omega arith in
-    let filled : body ≡ padded 506 (flat_map clause_bytes cls) = padded_from 506 (42 * n) (flat_map clause_bytes cls) body (ap length (sym m.2) ∙ size) (sym f ∙ m.2) (sym g ∙ q ∙ ap (λ k. replicate k 0) long) in
-    let says : take 510 block ≡ clauses_front cls = ap (take 510) e ∙ ap₂ (λ x y. 75 ∷ (66 ∷ (x ∷ (y ∷ take 506 rest)))) k1 (cn ∙ sym amount) ∙ ap (λ xs. 75 ∷ (66 ∷ (1 ∷ (length cls ∷ xs)))) (sym b ∙ filled) in
-    record { clauses = cls; count = amount; lawful = m.1; says = says }
+  pub clauses_used : (used : List ℕ) → used ≡ take (42 * n) body → Clauses c n block → Made clause_bytes (Lawful c) used
+  clauses_used used e w =
+      (w.clauses, w.lawful, e ∙ ap (take (42 * n)) (of_clauses w) ∙ padded_take 506 (42 * n) (flat_map clause_bytes w.clauses) (clauses_long w))
+
+  pub clauses_unused : (unused : List ℕ) → unused ≡ drop (42 * n) body → Clauses c n block → unused ≡ replicate (length unused) 0
+  clauses_unused unused e w =
+      let long : length unused ≡ 506 - 42 * n = ap length e ∙ length-drop (42 * n) body ∙ omega (arith, whole) in
+      e ∙ ap (drop (42 * n)) (of_clauses w) ∙ padded_drop 506 (42 * n) (flat_map clause_bytes w.clauses) (clauses_long w) ∙ ap (λ k. replicate k 0) (sym long)
+
+  pub clauses_made : (used unused : List ℕ) → used ≡ take (42 * n) body → unused ≡ drop (42 * n) body → n ≤ 12 → Made clause_bytes (Lawful c) used → unused ≡ replicate (length unused) 0 → Clauses c n block
+  unfolding clauses_front front
+  clauses_made used unused e f few m q =
+      let cls = m.0 in
+      let size : length used ≡ 42 * n = ap length e ∙ length-take-le (42 * n) body (omega (arith, whole)) in
+      let amount : length cls ≡ n = made_count clause_bytes 42 cls n used (fortytwos c cls m.1) (omega arith) m.2 size in
+      let long : length unused ≡ 506 - 42 * n = ap length f ∙ length-drop (42 * n) body ∙ omega (arith, whole) in
+      let filled : body ≡ padded 506 (flat_map clause_bytes cls) = padded_from 506 (42 * n) (flat_map clause_bytes cls) body (ap length (sym m.2) ∙ size) (sym e ∙ m.2) (sym f ∙ q ∙ ap (λ k. replicate k 0) long) in
+      record { clauses = cls; count = amount; lawful = m.1; says = front ∙ ap₂ (λ k xs. 75 ∷ (66 ∷ (1 ∷ (k ∷ xs)))) (sym amount) filled }

@@ -3,4 +3,5 @@ pub mod Written
 pub mod Leaves
 pub mod Heads
 pub mod Files
-pub mod Asked
+pub mod Chunks
+pub mod Held

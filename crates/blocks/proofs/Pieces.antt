@@ -1,10 +1,13 @@
 -- Lists made of pieces of one length.
-use Rattle.std.proofs.Common.{◌≡◌, ℕ, zero, suc, ◌+◌, ◌-◌, ◌*◌, ◌/◌, ◌<◌, ◌≤◌, List, [], ◌∷◌, ◌++◌, length, get_or, take, drop, sym, refl, ap, ◌∙◌, ap₂, le_of_suc-le-suc, not-suc-le-zero, mul-zero, mul-suc, arith, take-add}
+use Rattle.std.proofs.Common.{◌≡◌, ℕ, zero, suc, ◌+◌, ◌-◌, ◌*◌, ◌/◌, ◌%◌, ◌<◌, ◌≤◌, Bool, List, [], ◌∷◌, ◌++◌, length, get_or, take, drop, Decides, sym, ap, ◌∙◌, subst, ap₂, mul_comm, le_of_suc-le-suc, not-suc-le-zero, mul-zero, mul-suc, arith, take-add}
 use native.Mathlib.Nat.{mul-div_cancel_left}
 use Rattle.std.specs.List.{flat_map, AllByRecursion}
-use Rattle.std.proofs.lemmas.List.{append_assoc, append-nil, length-append, length-take-le, length-drop, take_at, drop_at, take-take, drop-drop, drop-take, nil_from_length, take-append-drop}
-use Rattle.std.proofs.ByRecursion.{All-get_or}
+use Rattle.std.proofs.lemmas.List.{append_assoc, length-append, length-take-le, length-drop, take_at, drop_at, take-take, drop-drop, drop-take, nil_from_length, take-append-drop}
+use Rattle.std.proofs.lemmas.Bool.Decides.{Decides-like}
+use Rattle.std.proofs.lemmas.Nat.{div-add-mod'}
+use Rattle.std.proofs.ByRecursion.{All-weaker}
 use Rattle.blocks.specs.Reading.{part}
+use Rattle.blocks.specs.Parts.{Made, MadeOne}
 
 -- the length of a part, and a part of a part
 pub part_length : (p n : ℕ) (xs : List ℕ) → p + n ≤ length xs → length (part p n xs) ≡ n
@@ -18,6 +21,10 @@ part_part q m p n xs h =
 
 pub part_front : (p m n : ℕ) (xs : List ℕ) → p + m ≤ n → part p m (take n xs) ≡ part p m xs
 part_front p m n xs h = part_part p m 0 n xs h ∙ ap (λ k. part k m xs) (omega arith)
+
+-- a part as the code cuts it out
+pub cut : (p n : ℕ) (xs : List ℕ) → take (p + n - p) (drop p xs) ≡ part p n xs
+cut p n xs = ap (λ k. take k (drop p xs)) (omega arith)
 
 -- one piece on
 shift : (m k : ℕ) (xs : List ℕ) → part (m * suc k) m xs ≡ part (m * k) m (drop m xs)
@@ -54,23 +61,36 @@ gather f m (x ∷ xs) d bytes g =
     ap (λ n. take n bytes) e ∙ take-add m (m * length xs) bytes ∙
     ap₂ ◌++◌ (sym (first m bytes) ∙ g 0 (omega arith)) (gather f m xs d (drop m bytes) (λ k h. sym (shift m k bytes) ∙ g (suc k) (omega arith)))
 
--- bytes each piece of which is that of some x are those of a list
-pub found : {X : Type 0} (f : X → List ℕ) (P : X → Type 0) (m n : ℕ) (bytes : List ℕ) → length bytes ≡ m * n → ((k : ℕ) → k < n → (x : X) × P x × (f x ≡ part (m * k) m bytes)) → (xs : List X) × (length xs ≡ n) × AllByRecursion P xs × (bytes ≡ flat_map f xs)
-found f P m zero bytes h g = ([], refl, tt, nil_from_length bytes (h ∙ mul-zero m))
-found f P m (suc n) bytes h g =
-    let x = g 0 (omega arith) in
-    let l : length (drop m bytes) ≡ m * n = length-drop m bytes ∙ omega (arith, mul-suc m n) in
-    let r = found f P m n (drop m bytes) l (λ k i. let y = g (suc k) (omega arith) in (y.0, y.1, y.2 ∙ shift m k bytes)) in
-    (x.0 ∷ r.0, ap suc r.1, (x.1, r.2), sym (take-append-drop m bytes) ∙ ap₂ ◌++◌ (sym (first m bytes) ∙ sym x.2) r.3)
+-- bytes are made of pieces exactly when each of their pieces is one
+module _ {X : Type 0} (f : X → List ℕ) (P : X → Type 0) (m : ℕ) (sizes : (x : X) → P x → length (f x) ≡ m) where
+  found : (n : ℕ) (bytes : List ℕ) → length bytes ≡ m * n → ((k : ℕ) → k < n → MadeOne f P (part (m * k) m bytes)) → Made f P bytes
+  found zero bytes h g = ([], tt, nil_from_length bytes (h ∙ mul-zero m))
+  found (suc n) bytes h g =
+      let x = g 0 (omega arith) in
+      let l : length (drop m bytes) ≡ m * n = length-drop m bytes ∙ omega (arith, mul-suc m n) in
+      let r = found n (drop m bytes) l (λ k i. let y = g (suc k) (omega arith) in (y.0, y.1, sym (shift m k bytes) ∙ y.2)) in
+      (x.0 ∷ r.0, (x.1, r.1), sym (take-append-drop m bytes) ∙ ap₂ ◌++◌ (sym (first m bytes) ∙ x.2) r.2)
 
--- and back: each piece of the bytes of a list is that of an element
-pub lost : {X : Type 0} (f : X → List ℕ) (P : X → Type 0) (m n : ℕ) (xs : List X) (bytes : List ℕ) (d : X) (k : ℕ) → AllByRecursion (λ x. length (f x) ≡ m) xs → 0 < m → length bytes ≡ m * n → AllByRecursion P xs → bytes ≡ flat_map f xs → k < n → P (get_or xs k d) × (f (get_or xs k d) ≡ part (m * k) m bytes)
-lost f P m n xs bytes d k a z h p e i =
-    let size : m * length xs ≡ m * n = sym (joined_length f m xs a) ∙ ap length (sym e) ∙ h in
-    let same : length xs ≡ n = sym (mul-div_cancel_left (length xs) z) ∙ ap (λ j. j / m) size ∙ mul-div_cancel_left n z in
-    let j : k < length xs = omega arith in
-    let at = ap (part (m * k) m) (append-nil (flat_map f xs)) in
-    (All-get_or P xs k d j p, sym (ap (part (m * k) m) e ∙ sym at ∙ piece f m xs [] k d a j))
+  lost : (xs : List X) (k : ℕ) → AllByRecursion P xs → k < length xs → MadeOne f P (part (m * k) m (flat_map f xs))
+  lost [] k a h = absurd (not-suc-le-zero h)
+  lost (x ∷ xs) zero a h =
+      (x, a.0, first m (f x ++ flat_map f xs) ∙ take_at (f x) (flat_map f xs) m (sizes x a.0))
+  lost (x ∷ xs) (suc k) a h =
+      let r = lost xs k a.1 (le_of_suc-le-suc h) in
+      (r.0, r.1, shift m k (f x ++ flat_map f xs) ∙ ap (part (m * k) m) (drop_at (f x) (flat_map f xs) m (sizes x a.0)) ∙ r.2)
+
+  pub made_by_pieces : (bytes : List ℕ) (r : Bool) → 0 < m → length bytes % m ≡ 0 → Decides r ((k : ℕ) → k < length bytes / m → MadeOne f P (part (m * k) m bytes)) → Decides r (Made f P bytes)
+  made_by_pieces bytes r pos h d =
+      let n = length bytes / m in
+      let size : length bytes ≡ m * n = omega (arith, div-add-mod' (length bytes) m, mul_comm m n) in
+      Decides-like r (found n bytes size)
+      (λ w k i.
+          let all = All-weaker P (λ x. length (f x) ≡ m) sizes w.0 w.1 in
+          let same : m * length w.0 ≡ m * n = sym (joined_length f m w.0 all) ∙ ap length (sym w.2) ∙ size in
+          let count : length w.0 ≡ n = sym (mul-div_cancel_left (length w.0) pos) ∙ ap (λ j. j / m) same ∙ mul-div_cancel_left n pos in
+          let Q : List ℕ → Type 0 = λ ys. MadeOne f P (part (m * k) m ys) in
+          subst Q (sym w.2) (lost w.0 k w.1 (omega arith)))
+      d
 
 pub all_of : {X : Type 0} (P : X → Type 0) → ((x : X) → P x) → (xs : List X) → AllByRecursion P xs
 all_of P h [] = tt

@@ -1,19 +1,23 @@
 -- What a block book means, and what reading a file does.
-use Rattle.std.specs.Prelude.{◌≡◌, ℕ, ◌⊎◌, List, Ok, Err, Result}
+use Rattle.std.specs.Prelude.{◌≡◌, ℕ, ◌≤◌, ◌⊎◌, List, length, Ok, Err, Result}
+use Rattle.std.proofs.Common.{arith}
 use Rattle.syntax.specs.declared.types.Literal.{Literal}
 use Rattle.syntax.specs.declared.types.Refusal.{Refusal}
 use Rattle.syntax.specs.declared.types.Refusal.TheVariants.{FileLength, BlockCheck, BlockLayout}
 use Rattle.syntax.specs.declared.counts.Counts.{Counts}
 use Rattle.blocks.specs.declared.book.BlockBook.{BlockBook}
-use Rattle.blocks.specs.Reading.{counts_of_block, clauses_in}
+use Rattle.blocks.specs.Reading.{clauses_at}
 use Rattle.blocks.specs.Layout.{IsFile, LengthRight, ChecksRight, LayoutRight, FirstWrong, AllRight, Right, block_count}
 
--- the counts and the clauses that a block book means: those in its bytes
+-- the counts and the clauses that a block book means: by its type its bytes are their file
 abbrev pub counts_of : BlockBook → Counts
-counts_of b = counts_of_block b.bytes.now
+counts_of b = b.counts
 
 abbrev pub clauses_of : BlockBook → List (List Literal)
-clauses_of b = clauses_in b.bytes.now
+clauses_of b = clauses_at b.len b.bytes.now
+
+pub block_few : (b : BlockBook) → length (clauses_of b) ≤ 65535
+block_few b = omega (arith, b.file.few)
 
 -- why bytes are refused, topmost first: their length (11), else the first block whose check is wrong (12), else the first block
 -- whose layout is wrong (13)

@@ -1,6 +1,6 @@
 pub mod Format
 pub mod Reading
 pub mod Layout
+pub mod OneProof
 pub mod Parts
 pub mod Book
-pub mod Stands

@@ -1,8 +1,10 @@
 -- What the functions on parts of a file answer.
-use Rattle.std.specs.Prelude.{◌≡◌, ℕ, ◌≤◌, List, Some, None, Option}
+use Rattle.std.specs.Prelude.{◌≡◌, ℕ, ◌<◌, ◌≤◌, List, [], length, Some, None, Option, slice_index, slice_index_or}
 use Rattle.std.specs.List.{flat_map, AllByRecursion}
+use Rattle.syntax.specs.declared.types.Literal.{Literal}
 use Rattle.syntax.specs.declared.counts.Counts.{Counts}
-use Rattle.blocks.specs.Format.{padded, head_contents}
+use Rattle.syntax.specs.Lawful.{Lawful}
+use Rattle.blocks.specs.Format.{padded, clause_bytes, head_contents}
 use Rattle.blocks.specs.Layout.{FirstWrong, AllRight}
 
 -- the bytes are those of some list of such elements
@@ -21,3 +23,11 @@ HeadBody body c n = (n ≤ 256) × (body ≡ padded 506 (head_contents c n))
 abbrev pub Searched : (ℕ → Type 0) → ℕ → Option ℕ → Type 0
 Searched P n (Some b) = FirstWrong P n b
 Searched P n None = AllRight P n
+
+-- the bytes are those of clause i, which is lawful
+pub record ClauseAt (c : Counts) (cls : List (List Literal)) (i : ℕ) (bytes : List ℕ) : Type 0 where
+  pub there : i < length cls
+  pub lawful : Lawful c (slice_index_or cls i [])
+  pub is : bytes ≡ clause_bytes (slice_index_or cls i [])
+  pub first : slice_index bytes 0 ≡ length (slice_index_or cls i [])
+  pub long : length bytes ≡ 42

@@ -1,29 +1,17 @@
-use Rattle.std.proofs.Common.{◌≡◌, ℕ, ◌*◌, get_or, sym, refl, ◌∙◌, arith, below_more}
-use Rattle.std.proofs.lemmas.Bool.{false≢true}
+use Rattle.std.proofs.Common.{arith, rules, ap, ◌∙◌}
+use Rattle.std.specs.Slice.Iter.{chunks_exact_rest, chunks_exact_size}
 use Rattle.syntax.specs.Lawful.{LawfulLiteral}
 use Rattle.syntax.specs.Codes.{literal_code}
-use Rattle.syntax.specs.declared.types.Literal.{Literal}
-use Rattle.blocks.specs.Reading.{part}
-use Rattle.blocks.proofs.Leaves.{blank, cut}
-use Rattle.blocks.proofs.Pieces.{found, lost}
-use Rattle.blocks.proofs.Written.{fives}
+use Rattle.blocks.specs.Parts.{MadeOne}
+use Rattle.blocks.proofs.Pieces.{made_by_pieces}
+use Rattle.blocks.proofs.Written.{literal_length}
+use Rattle.blocks.proofs.Chunks.{all_tells}
 use Rattle.blocks.proofs.block.are_literals.Goals as goal
-
-pub returns-in-None : goal.returns-in-None
-returns-in-None c = (
-  λ e. absurd (false≢true e),
-  λ m. let z = lost literal_code (LawfulLiteral c.args.counts) 5 c.args.n m.0 c.args.bytes.now blank c.loop-k.k (fives m.0) (omega arith) c.requires m.1 m.2 (omega arith) in
-      absurd (c.in-None.ensures (get_or m.0 c.loop-k.k blank) z.0 (z.1 ∙ sym (cut (5 * c.loop-k.k) 5 c.args.bytes.now))),
-)
-
-pub loop-k-preserved : goal.loop-k-preserved
-loop-k-preserved c =
-    let bytes = c.args.bytes.now in
-    let P : ℕ → Type 0 = λ j. (x : Literal) × LawfulLiteral c.args.counts x × (literal_code x ≡ part (5 * j) 5 bytes) in
-    let z = c.in-Some.ensures in
-    below_more P c.loop-k.k c.loop-k.invariant (c.in-Some.field-0, z.0, z.1 ∙ cut (5 * c.loop-k.k) 5 bytes)
 
 pub returns : goal.returns
 returns c =
-    let r = found literal_code (LawfulLiteral c.args.counts) 5 c.args.n c.args.bytes.now c.requires (λ j h. c.loop-k.invariant j (omega arith)) in
-    (λ _. (r.0, r.2, r.3), λ _. refl)
+    let P = LawfulLiteral c.args.counts in
+    let h = c.all.ensures.runs in
+    let z = c.chunks_exact.ensures in
+    made_by_pieces literal_code P 5 (λ l w. literal_length l) c.args.bytes.now _ (omega arith) c.requires
+    (all_tells 5 (omega arith) c.args.bytes.now h.0 (z.runs h.0 h.0.seen) (ap chunks_exact_size h.1 ∙ z.size) (ap chunks_exact_rest h.1 ∙ z.rest) (λ b. MadeOne literal_code P b) _ _ (search rules) _ h.2 (λ x b k. search rules))

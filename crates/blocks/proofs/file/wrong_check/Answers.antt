@@ -1,15 +1,11 @@
-use Rattle.std.proofs.Common.{ℕ, ◌*◌, List, sym, subst, below_more}
-use Rattle.std.proofs.lemmas.Bool.{false≢true}
-use Rattle.blocks.specs.Layout.{CheckRight, ChecksRight}
-use Rattle.blocks.proofs.Leaves.{cut}
+use Rattle.std.proofs.Common.{arith, rules, ap, ◌∙◌}
+use Rattle.std.specs.Slice.Iter.{chunks_exact_rest, chunks_exact_size}
+use Rattle.blocks.specs.Layout.{CheckRight}
+use Rattle.blocks.proofs.Chunks.{position_tells, denied}
 use Rattle.blocks.proofs.file.wrong_check.Goals as goal
 
-pub returns-then-not-check_is_right : goal.returns-then-not-check_is_right
-returns-then-not-check_is_right c =
-    let P : List ℕ → Type 0 = λ xs. CheckRight xs in
-    (c.loop-b-test.true, λ r. false≢true (c.if-not-check_is_right.ensures.1 (subst P (sym (cut (512 * c.loop-b.b) 512 c.args.bytes.now)) r)), c.loop-b.invariant)
-
-pub loop-b-preserved : goal.loop-b-preserved
-loop-b-preserved c =
-    let P : List ℕ → Type 0 = λ xs. CheckRight xs in
-    below_more (ChecksRight c.args.bytes.now) c.loop-b.b c.loop-b.invariant (subst P (cut (512 * c.loop-b.b) 512 c.args.bytes.now) (c.check_is_right.ensures.0 c.if-not-check_is_right.false))
+pub returns : goal.returns
+returns c =
+    let h = c.position.ensures.runs in
+    let z = c.chunks_exact.ensures in
+    position_tells 512 (omega arith) c.args.bytes.now h.0 (z.runs h.0 h.0.seen) (ap chunks_exact_size h.1 ∙ z.size) (ap chunks_exact_rest h.1 ∙ z.rest) (λ b. CheckRight b) _ _ (search rules) _ h.2 (λ x b k. let d = denied (CheckRight x.now) b in search (rules, d))
