@@ -1,6 +1,5 @@
 // Terms, atoms and literals under an assignment.
 ghost use Rattle.std.specs.Prelude.{◌≡◌};
-ghost use Rattle.syntax.specs.Numbers.{atom_of};
 ghost use Rattle.semantics.specs.Meaning.{name_at, ground_of};
 ghost use Rattle.instances.specs.Assignments.{names_of, denial as denial_by};
 
@@ -27,23 +26,12 @@ pub fn instance(names: [u8; 4], atom: Atom) -> Ground
     }
 }
 
-// A ground atom as an atom.
-fn as_atom(g: Ground) -> Atom
-    ensures { result ≡ atom_of g }
-{
-    match g {
-        Ground::Same(a, b) => Atom::Same(Term::Name(a), Term::Name(b)),
-        Ground::Prop(p, a) => Atom::Prop(p, Term::Name(a)),
-        Ground::Rel(r, a, b) => Atom::Rel(r, Term::Name(a), Term::Name(b)),
-    }
-}
-
 // The literal's instance, denied.
 pub fn denial(names: [u8; 4], l: Literal) -> Literal
     ensures { result ≡ denial_by (names_of names) l }
 {
     Literal {
         sign: !l.sign,
-        atom: as_atom(instance(names, l.atom)),
+        atom: Atom::from(instance(names, l.atom)),
     }
 }

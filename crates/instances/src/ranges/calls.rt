@@ -30,7 +30,7 @@ fn atom_uses(v: u8, atom: Atom) -> bool
 pub fn uses<B: Book>(book: &B, i: usize, v: u8) -> bool
     ensures { result ≡ uses_by v (slice_index_or (B.clauses book.now) i []) }
 {
-    (0..8).any(|j| book.literal(i, j).is_some_and(|l| atom_uses(v, l.atom)))
+    book.literals_of(i).any(|l| atom_uses(v, l.atom))
 }
 
 // How many names a variable of clause i runs through.
