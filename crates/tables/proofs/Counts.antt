@@ -1,10 +1,10 @@
 -- How many stand, after a change of one mark.
-use Rattle.std.proofs.Common.{◌≡◌, ℕ, zero, suc, ◌+◌, ◌<◌, Bool, true, false, List, [], ◌∷◌, length, get_or, set, Ok, Err, sym, refl, ap, ◌∙◌, le_of_suc-le-suc, arith}
-use Rattle.std.proofs.lemmas.List.{set-get_or, length-set, length-map}
+use Rattle.std.proofs.Common.{◌≡◌, ℕ, zero, suc, ◌+◌, ◌<◌, Bool, true, false, List, [], ◌∷◌, length, get_or, set, sym, refl, ap, ◌∙◌, le_of_suc-le-suc, arith}
+use Rattle.std.proofs.lemmas.List.{set-get_or}
 use Rattle.syntax.specs.declared.types.Mark.{Mark}
 use Rattle.syntax.specs.declared.types.Mark.TheVariants.{Open}
 use Rattle.tables.specs.Marks.{stands, standing, signed}
-use Rattle.tables.specs.Counting.{OpenFrom, OneMore, OneLess, NoneLeft, AtMost, Fewer, ToldReach, UntoldReach, ClearedReach, ToldOnce, UntoldOnce}
+use Rattle.tables.specs.Counting.{OpenFrom, OneMore, OneLess, NoneLeft, AtMost, Fewer}
 use Rattle.tables.specs.Within.{stands_le, standing_le}
 use Rattle.tables.proofs.Refused.{tell_done, untell_done}
 
@@ -57,26 +57,3 @@ fewer A k [] h lt o = omega arith
 fewer zero k (m ∷ ms) h lt o = omega arith
 fewer (suc A) zero (m ∷ ms) h lt o = omega (arith, ap stands o, at_most A ms (later A m ms h))
 fewer (suc A) (suc k) (m ∷ ms) h lt o = omega (arith, stands_le m, fewer A k ms (later A m ms h) (le_of_suc-le-suc lt) o)
-
-pub told_reach : ToldReach
-told_reach ms ns room a s (Ok u) t = ap length t.1 ∙ length-set ms a (signed s)
-told_reach ms ns room a s (Err e) t = ap length t.1
-
-pub untold_reach : UntoldReach
-untold_reach ms ns a (Ok u) t = ap length t.1 ∙ length-set ms a Open
-untold_reach ms ns a (Err e) t = ap length t.1
-
-pub cleared_reach : ClearedReach
-cleared_reach ms = length-map ms (λ _. Open)
-
-pub told_once : ToldOnce
-told_once ms ns ns' room a s (Ok u) (Ok v) p q = (refl, p.1 ∙ sym q.1)
-told_once ms ns ns' room a s (Ok u) (Err f) (p, p') (q, q') = let z : ◌≡◌ {A = ℕ} 0 1 = cc in absurd (omega arith)
-told_once ms ns ns' room a s (Err e) (Ok v) (p, p') (q, q') = let z : ◌≡◌ {A = ℕ} 0 1 = cc in absurd (omega arith)
-told_once ms ns ns' room a s (Err e) (Err f) (p, p') (q, q') = let z : e ≡ f = cc in (ap Err z, p' ∙ sym q')
-
-pub untold_once : UntoldOnce
-untold_once ms ns ns' a (Ok u) (Ok v) p q = (refl, p.1 ∙ sym q.1)
-untold_once ms ns ns' a (Ok u) (Err f) (p, p') (q, q') = let z : ◌≡◌ {A = ℕ} 0 1 = cc in absurd (omega arith)
-untold_once ms ns ns' a (Err e) (Ok v) (p, p') (q, q') = let z : ◌≡◌ {A = ℕ} 0 1 = cc in absurd (omega arith)
-untold_once ms ns ns' a (Err e) (Err f) (p, p') (q, q') = let z : e ≡ f = cc in (ap Err z, p' ∙ sym q')

@@ -1,10 +1,10 @@
 -- Four marks to a byte: lengths, reads and writes.
-use Rattle.std.proofs.Common.{◌≡◌, ℕ, zero, suc, ◌+◌, ◌-◌, ◌*◌, ◌/◌, ◌%◌, ◌^◌, ◌<◌, ◌≤◌, min, List, [], ◌∷◌, length, get_or, drop, set, replicate, sym, refl, ap, ◌∙◌, inl, inr, arith}
+use Rattle.std.proofs.Common.{◌≡◌, ℕ, zero, suc, ◌+◌, ◌-◌, ◌*◌, ◌/◌, ◌%◌, ◌^◌, ◌<◌, ◌≤◌, min, List, length, get_or, drop, set, replicate, sym, refl, ap, ◌∙◌, inl, inr, arith}
 use native.Mathlib.Nat.{zero-div}
 use Rattle.std.proofs.lemmas.List.{length-set, length-append, length-drop, length-replicate, get_or-set_same, get_or-set_other, get_or-replicate, get_or_append_left, ext_get_or, drop_all, drop_at}
 use Rattle.std.proofs.lemmas.Bool.{cases_eq, cases_lt}
+use Rattle.std.proofs.lemmas.Simd.{splat_is_map}
 use Rattle.std.proofs.lemmas.List.FromFn.{get_or-map-range_with_len}
-use Rattle.syntax.specs.declared.types.Mark.{Mark}
 use Rattle.syntax.specs.declared.types.Mark.TheVariants.{Open}
 use Rattle.tables.specs.Marks.{cleared}
 use Rattle.tables.specs.Packed.{digit, meant, mark_at, packed_reach, packed_marks, beyond, zeroed, wiped}
@@ -123,12 +123,8 @@ wiped_open bs =
     let z : get_or (wiped bs) (i / 4) 0 ≡ 0 = get_or_append_left (replicate n 0) (drop n bs) 0 (i / 4) (omega (arith, length-replicate {A = ℕ} n 0)) ∙ get_or-replicate n (i / 4) 0 0 q in
     packed_at (wiped bs) i i<' ∙ ap (λ x. meant (digit x (i % 4))) z ∙ ap meant (zero_digit (i % 4)) ∙ sym (get_or-replicate (packed_reach bs) i Open Open i<))
 
-opens_cleared : (ms : List Mark) → replicate (length ms) Open ≡ cleared ms
-opens_cleared [] = refl
-opens_cleared (m ∷ ms) = ap (λ l. Open ∷ l) (opens_cleared ms)
-
 pub wiped_cleared : (bs : List ℕ) → packed_marks (wiped bs) ≡ cleared (packed_marks bs)
-wiped_cleared bs = wiped_open bs ∙ ap (λ n. replicate n Open) (sym (packed_length bs)) ∙ opens_cleared (packed_marks bs)
+wiped_cleared bs = wiped_open bs ∙ splat_is_map (packed_marks bs) (packed_reach bs) Open (packed_length bs)
 
 past_zeroed : (n : ℕ) (bs : List ℕ) → drop n (zeroed n bs) ≡ drop n bs
 past_zeroed n bs = drop_at (replicate n 0) (drop n bs) n (length-replicate {A = ℕ} n 0)

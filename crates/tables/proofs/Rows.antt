@@ -1,7 +1,8 @@
 -- What a change of the rows does to the marks.
 use Rattle.std.proofs.Common.{◌≡◌, ℕ, zero, suc, ◌+◌, ◌<◌, ◌≤◌, Bool, true, is_some, ◌≢◌, List, [], ◌∷◌, ◌++◌, length, get_or, take, set, replicate, Some, None, Ok, Option, sym, refl, ap, ◌∙◌, subst, inl, inr, true≢false, le_of_suc-le-suc, arith}
 use Rattle.std.specs.Prelude.{All, HoldsAt, MatchOption}
-use Rattle.std.proofs.lemmas.List.{length-set, length-replicate, length_push, get_or-set_same, get_or-set_other, set-set, set_comm, set_past, get_or_past, get_or_append_left, get_or_push, take_more, take_more_set, length-take-le}
+use Rattle.std.proofs.lemmas.List.{length-set, length-replicate, get_or-replicate, length_push, get_or-set_same, get_or-set_other, set-set, set_comm, set_past, get_or_past, get_or_append_left, get_or_push, take_more, take_more_set, length-take-le}
+use Rattle.std.proofs.lemmas.Simd.{splat_is_map}
 use Rattle.std.proofs.lemmas.Bool.{cases_lt}
 use Rattle.syntax.specs.declared.types.SignedAtom.{SignedAtom}
 use Rattle.syntax.specs.declared.types.Mark.{Mark}
@@ -20,14 +21,12 @@ pub none_stand : standing all_open ≡ 0
 unfolding all_open
 none_stand = standing_replicate 10240
 
-getD_opens : (n k : ℕ) → stands (get_or (replicate n Open) k Open) ≡ 0
-getD_opens zero k = refl
-getD_opens (suc n) zero = refl
-getD_opens (suc n) (suc k) = getD_opens n k
-
 none_open : (a : ℕ) → stands (get_or all_open a Open) ≡ 0
 unfolding all_open
-none_open a = getD_opens 10240 a
+none_open a = elim (cases_lt a 10240) [
+  | inl h ↦ ap stands (get_or-replicate 10240 a Open Open h)
+  | inr h ↦ ap stands (get_or_past (replicate 10240 Open) a Open (omega (arith, length-replicate 10240 Open)))
+]
 
 all_length : length all_open ≡ 10240
 unfolding all_open
@@ -197,15 +196,9 @@ removed rs i d z e h =
     let x< : x.atom < length full = up_within full x.atom up in
     (m, omega (arith, ap standing m, standing_set full x.atom Open x<, up, e, length_push rs z, length-set rs i z))
 
-cleared_opens : (n : ℕ) (ms : List Mark) → length ms ≡ n → replicate n Open ≡ cleared ms
-cleared_opens zero [] e = refl
-cleared_opens zero (m ∷ ms) e = absurd (omega arith)
-cleared_opens (suc n) [] e = absurd (omega arith)
-cleared_opens (suc n) (m ∷ ms) e = ap (λ l. Open ∷ l) (cleared_opens n ms (omega arith))
-
 pub all_cleared : (rs : List SignedAtom) → all_open ≡ cleared (listed rs)
 unfolding all_open
-all_cleared rs = cleared_opens 10240 (listed rs) (listed_length rs)
+all_cleared rs = splat_is_map (listed rs) 10240 Open (listed_length rs)
 
 -- the same, over the slots
 pub removal : (rows : List SignedAtom) (n len i : ℕ) (d : SignedAtom) → n + 1 ≡ len → len ≤ length rows → i ≤ n → Each (take len rows)

@@ -12,6 +12,7 @@ pub struct Choice {
     pub sign: bool,
 }
 
+// The slots are lent, and no `ArrayVec`, since a library crate owns no memory.
 #[derive(Drop)]
 pub struct Stack<'a, T> {
     slots: &'a mut [T],

@@ -32,7 +32,8 @@ pub trait BranchTable {
     fn ask(&self, atom: usize) -> Result<Mark, Refusal>
         ensures { Asked (marks self.now) atom result };
 
-    // Gives an open atom a sign.
+    // Gives an open atom a sign. That room and loan stay is said at each call that changes the table: code over any
+    // table uses them one by one.
     fn tell(&mut self, atom: usize, sign: bool) -> Result<(), Refusal>
         ensures told { Told (marks self.old) (room self.old) atom sign (marks self.new) result }
         ensures kept { UnlessRefused self.old self.new result }

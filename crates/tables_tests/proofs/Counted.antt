@@ -1,11 +1,11 @@
 -- Atoms told one after the other, and opened again.
-use Rattle.std.proofs.Common.{◌≡◌, ℕ, zero, suc, ◌+◌, ◌-◌, ◌<◌, ◌≤◌, Bool, true, false, cond, leb, List, [], ◌∷◌, ◌++◌, length, get_or, take, drop, set, is_some, Some, None, Option, sym, refl, ap, ◌∙◌, inl, inr, arith}
+use Rattle.std.proofs.Common.{◌≡◌, ℕ, zero, suc, ◌+◌, ◌-◌, ◌<◌, ◌≤◌, Bool, true, false, cond, leb, List, [], ◌∷◌, ◌++◌, length, get_or, take, drop, set, is_some, Some, None, Ok, Err, Option, Result, is_err, true≢false, sym, refl, ap, ◌∙◌, arith}
 use Rattle.std.proofs.lemmas.List.{set-set, at_drop_more}
-use Rattle.std.proofs.lemmas.Bool.{cases_Bool, lt-leb, cond-true, cond-false}
+use Rattle.std.proofs.lemmas.Bool.{lt-leb, cond-false}
 use Rattle.syntax.specs.declared.types.Mark.{Mark}
 use Rattle.syntax.specs.declared.types.Mark.TheVariants.{Open}
 use Rattle.syntax.specs.declared.types.Refusal.{Refusal}
-use Rattle.tables.specs.Marks.{signed, tell_refusal}
+use Rattle.tables.specs.Marks.{signed, tell_refusal, Told}
 use Rattle.tables.specs.Stacks.{Pushed}
 use Rattle.tables.specs.Walks.{opened}
 use Rattle.tables.proofs.Counts.{set_open}
@@ -33,13 +33,6 @@ module _ (room : ℕ) (s : Bool) where
   count_full ms [] = refl
   count_full ms (a ∷ xs) = refl
 
-  -- the next atom is refused
-  pub count_stop : (free : ℕ) (ms : List Mark) (a : ℕ) (xs : List ℕ) (e : Refusal) → tell_refusal ms room a ≡ Some e → count_told room s free ms (a ∷ xs) ≡ 0
-  count_stop free ms a xs e h = elim (cases_Bool (leb free 0)) [
-    | inl t ↦ cond-true (leb free 0) _ _ t
-    | inr f ↦ cond-false (leb free 0) _ _ f ∙ cond-true _ _ _ (ap is_some h)
-  ]
-
   -- the next atom is told
   pub count_more : (free : ℕ) (ms : List Mark) (a : ℕ) (xs : List ℕ) → 0 < free → tell_refusal ms room a ≡ None
       → count_told room s free ms (a ∷ xs) ≡ 1 + count_told room s (free - 1) (set ms a (signed s)) xs
@@ -60,10 +53,6 @@ module _ (room : ℕ) (s : Bool) where
       let e : slots - length is ≡ 0 = omega arith in
       ap (λ f. count_told room s f ms (drop i atoms)) e ∙ count_full ms (drop i atoms)
 
-  pub stop_refused : (free : ℕ) (ms : List Mark) (atoms : List ℕ) (i : ℕ) (e : Refusal) → i < length atoms → tell_refusal ms room (get_or atoms i 0) ≡ Some e
-      → count_told room s free ms (drop i atoms) ≡ 0
-  stop_refused free ms atoms i e h r = at_drop_more (count_told room s free ms) atoms i 0 h ∙ count_stop free ms (get_or atoms i 0) (drop (i + 1) atoms) e r
-
   pub step_told : (free free' : ℕ) (ms ns : List Mark) (atoms : List ℕ) (i : ℕ) → i < length atoms → 0 < free → free' ≡ free - 1
       → tell_refusal ms room (get_or atoms i 0) ≡ None → ns ≡ set ms (get_or atoms i 0) (signed s)
       → count_told room s free ms (drop i atoms) ≡ 1 + count_told room s free' ns (drop (i + 1) atoms)
@@ -75,3 +64,9 @@ module _ (room : ℕ) (s : Bool) where
 pub pushed_on : (xs ys : List ℕ) (slots x : ℕ) (r : Bool) → Pushed xs slots x ys r → (length xs ≡ slots → ⊥) → (length xs < slots) × (ys ≡ xs ++ (x ∷ []))
 pushed_on xs ys slots x true p n = p
 pushed_on xs ys slots x false p n = absurd (n p.0)
+
+-- a tell that is not refused
+pub told_ok : (ms ns : List Mark) (room a : ℕ) (s : Bool) (r : Result Unit Refusal) → is_err r ≡ false → Told ms room a s ns r
+    → (tell_refusal ms room a ≡ None) × (ns ≡ set ms a (signed s))
+told_ok ms ns room a s (Ok u) h t = t
+told_ok ms ns room a s (Err e) h t = absurd (true≢false h)

@@ -6,38 +6,21 @@ pub mod walk;
 #[cfg(test)]
 mod tests {
     use crate::lent::{try_bytes, try_rows};
-    use std::test::Fail;
     use syntax::types::{Mark, Refusal, SignedAtom};
     use tables::listed::ListedTable;
     use tables::packed::PackedTable;
-        use tables::stack::{Choice, Stack};
+    use tables::stack::{Choice, Stack};
     use tables::table::BranchTable;
 
-    // A call with what it answers: a cause, or for an ask 0 open, 1 yes, 2 no.
+    // A call with what it answers.
     #[derive(Clone, Copy)]
     enum Step {
         Reach(usize),
         Capacity(usize),
-        Ask(usize, u8),
-        Tell(usize, bool, u8),
-        Untell(usize, u8),
+        Ask(usize, Result<Mark, Refusal>),
+        Tell(usize, bool, Result<(), Refusal>),
+        Untell(usize, Result<(), Refusal>),
         Clear,
-    }
-
-    fn cause(r: Result<(), Refusal>) -> u8 {
-        match r {
-            Ok(()) => 0,
-            Err(e) => e.cause(),
-        }
-    }
-
-    fn asked(r: Result<Mark, Refusal>) -> u8 {
-        match r {
-            Ok(Mark::Open) => 0,
-            Ok(Mark::Yes) => 1,
-            Ok(Mark::No) => 2,
-            Err(e) => e.cause(),
-        }
     }
 
     // How many of the steps answer as said, up to the first that does not.
@@ -46,9 +29,9 @@ mod tests {
             let right = match *step {
                 Step::Reach(n) => table.reach() == n,
                 Step::Capacity(n) => table.capacity() == n,
-                Step::Ask(atom, answer) => asked(table.ask(atom)) == answer,
-                Step::Tell(atom, sign, answer) => cause(table.tell(atom, sign)) == answer,
-                Step::Untell(atom, answer) => cause(table.untell(atom)) == answer,
+                Step::Ask(atom, answer) => table.ask(atom) == answer,
+                Step::Tell(atom, sign, answer) => table.tell(atom, sign) == answer,
+                Step::Untell(atom, answer) => table.untell(atom) == answer,
                 Step::Clear => {
                     table.clear();
                     true
@@ -68,9 +51,9 @@ mod tests {
         let steps = [
             Step::Reach(0),
             Step::Capacity(0),
-            Step::Ask(0, 15),
-            Step::Tell(0, true, 15),
-            Step::Untell(0, 15),
+            Step::Ask(0, Err(Refusal::BeyondReach)),
+            Step::Tell(0, true, Err(Refusal::BeyondReach)),
+            Step::Untell(0, Err(Refusal::BeyondReach)),
         ];
         assert_eq!(rt; run(&mut table, &steps), 5);
     }
@@ -82,15 +65,15 @@ mod tests {
         let steps = [
             Step::Reach(10240),
             Step::Capacity(10240),
-            Step::Ask(10239, 0),
-            Step::Tell(10239, false, 0),
-            Step::Tell(10239, true, 16),
-            Step::Ask(10239, 2),
-            Step::Ask(10238, 0),
-            Step::Tell(10240, true, 15),
-            Step::Untell(10238, 18),
+            Step::Ask(10239, Ok(Mark::Open)),
+            Step::Tell(10239, false, Ok(())),
+            Step::Tell(10239, true, Err(Refusal::Standing)),
+            Step::Ask(10239, Ok(Mark::No)),
+            Step::Ask(10238, Ok(Mark::Open)),
+            Step::Tell(10240, true, Err(Refusal::BeyondReach)),
+            Step::Untell(10238, Err(Refusal::NotStanding)),
             Step::Clear,
-            Step::Ask(10239, 0),
+            Step::Ask(10239, Ok(Mark::Open)),
         ];
         assert_eq!(rt; run(&mut table, &steps), 11);
     }
@@ -102,8 +85,8 @@ mod tests {
         let steps = [
             Step::Reach(10240),
             Step::Capacity(10240),
-            Step::Tell(10239, true, 0),
-            Step::Ask(10240, 15),
+            Step::Tell(10239, true, Ok(())),
+            Step::Ask(10240, Err(Refusal::BeyondReach)),
             Step::Clear,
         ];
         assert_eq!(rt; run(&mut table, &steps), 5);
@@ -118,10 +101,10 @@ mod tests {
         let steps = [
             Step::Reach(10240),
             Step::Capacity(0),
-            Step::Ask(10239, 0),
-            Step::Tell(10239, true, 17),
-            Step::Tell(10240, true, 15),
-            Step::Untell(0, 18),
+            Step::Ask(10239, Ok(Mark::Open)),
+            Step::Tell(10239, true, Err(Refusal::TableFull)),
+            Step::Tell(10240, true, Err(Refusal::BeyondReach)),
+            Step::Untell(0, Err(Refusal::NotStanding)),
         ];
         assert_eq!(rt; run(&mut table, &steps), 6);
     }
@@ -134,20 +117,20 @@ mod tests {
         }];
         let mut table = ListedTable::new(&mut rows);
         let steps = [
-            Step::Ask(7, 0),
-            Step::Tell(10239, false, 0),
-            Step::Ask(10239, 2),
-            Step::Tell(10239, true, 16),
-            Step::Tell(7, true, 17),
-            Step::Untell(10239, 0),
-            Step::Tell(7, true, 0),
-            Step::Ask(7, 1),
+            Step::Ask(7, Ok(Mark::Open)),
+            Step::Tell(10239, false, Ok(())),
+            Step::Ask(10239, Ok(Mark::No)),
+            Step::Tell(10239, true, Err(Refusal::Standing)),
+            Step::Tell(7, true, Err(Refusal::TableFull)),
+            Step::Untell(10239, Ok(())),
+            Step::Tell(7, true, Ok(())),
+            Step::Ask(7, Ok(Mark::Yes)),
         ];
         assert_eq!(rt; run(&mut table, &steps), 8);
     }
 
     #[test]
-    fn choices(rt: HostRuntime) -> Result<(), Fail> {
+    fn choices(rt: HostRuntime) {
         let mut slots = [Choice {
             height: 0,
             atom: 0,
@@ -178,16 +161,7 @@ mod tests {
         );
         stack.cut(1);
         assert!(rt; stack.at(1).is_none());
-        match stack.pop() {
-            Some(choice) => {
-                assert_eq!(rt; choice.atom, 5);
-                Ok(())
-            },
-            None => {
-                assert!(rt; false);
-                Ok(())
-            },
-        }
+        assert_eq!(rt; stack.pop().map(|choice| choice.atom), Some(5));
     }
 
     // In the bytes the third atom is refused, as it stands; in two rows, as the table is full.

@@ -15,28 +15,24 @@ pub fn tell_all<T: BranchTable>(
     atoms: &[u16],
     sign: bool,
 ) -> usize
-    ensures count { result ≡ count_told (T.BranchTable.room table.old) sign (slots_of trail.old - length (items trail.old)) (T.BranchTable.marks table.old) atoms.now }
-    ensures marks { T.BranchTable.marks table.new ≡ told sign (T.BranchTable.marks table.old) (take result atoms.now) }
+    ensures count { result ≡ count_told (T.room table.old) sign (slots_of trail.old - length (items trail.old)) (T.marks table.old) atoms.now }
+    ensures marks { T.marks table.new ≡ told sign (T.marks table.old) (take result atoms.now) }
     ensures trail { items trail.new ≡ items trail.old ++ take result atoms.now }
-    ensures room { T.BranchTable.room table.new ≡ T.BranchTable.room table.old }
-    ensures loan { T.BranchTable.loan table.new ≡ T.BranchTable.loan table.old }
+    ensures room { T.room table.new ≡ T.room table.old }
+    ensures loan { T.loan table.new ≡ T.loan table.old }
     ensures slots { slots_of trail.new ≡ slots_of trail.old }
     ensures lent { loan_of trail.new ≡ loan_of trail.old }
 {
-    let mut done = 0;
-    for atom in atoms {
+    for (done, atom) in atoms.iter().enumerate() {
         if trail.is_full() {
             return done;
         }
-        match table.tell(*atom as usize, sign) {
-            Ok(()) => {
-                let _ = trail.push(*atom);
-                done += 1;
-            }
-            Err(_refusal) => return done,
+        if table.tell(*atom as usize, sign).is_err() {
+            return done;
         }
+        let _ = trail.push(*atom);
     }
-    done
+    atoms.len()
 }
 
 // Tells the atoms as far as it goes and takes them back: the table means what it meant.
@@ -46,11 +42,11 @@ pub fn tell_and_untell<T: BranchTable>(
     atoms: &[u16],
     sign: bool,
 ) -> usize
-    ensures count { result ≡ count_told (T.BranchTable.room table.old) sign (slots_of trail.old - length (items trail.old)) (T.BranchTable.marks table.old) atoms.now }
-    ensures marks { T.BranchTable.marks table.new ≡ T.BranchTable.marks table.old }
+    ensures count { result ≡ count_told (T.room table.old) sign (slots_of trail.old - length (items trail.old)) (T.marks table.old) atoms.now }
+    ensures marks { T.marks table.new ≡ T.marks table.old }
     ensures trail { items trail.new ≡ items trail.old }
-    ensures room { T.BranchTable.room table.new ≡ T.BranchTable.room table.old }
-    ensures loan { T.BranchTable.loan table.new ≡ T.BranchTable.loan table.old }
+    ensures room { T.room table.new ≡ T.room table.old }
+    ensures loan { T.loan table.new ≡ T.loan table.old }
     ensures slots { slots_of trail.new ≡ slots_of trail.old }
     ensures lent { loan_of trail.new ≡ loan_of trail.old }
 {

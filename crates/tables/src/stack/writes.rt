@@ -1,4 +1,5 @@
-// The calls of a stack that change it.
+// The calls of a stack that change it. Each says with two clauses that the slots stay those that were lent: the
+// crates above use now the one and now the other, so one relation for both would be no plainer.
 ghost use Rattle.std.specs.Prelude.{◌≡◌, false, take};
 ghost use Rattle.tables.specs.Stacks.{Pushed, Popped};
 ghost use Rattle.tables.specs.Items.{items, slots_of, loan_of};
@@ -6,7 +7,7 @@ ghost use Rattle.tables.specs.Items.{items, slots_of, loan_of};
 use crate::stack::Stack;
 
 impl<'a, T: Copy> Stack<'a, T> {
-    // Puts an element on top; false, and nothing done, where there is no room.
+    // Puts an element on top; false, and nothing done, where there is no room. No `Result`: no refusal has this cause.
     pub fn push(&mut self, x: T) -> bool
         ensures pushed { Pushed (items self.old) (slots_of self.old) x (items self.new) result }
         ensures kept { result ≡ false → self.new ≡ self.old }
