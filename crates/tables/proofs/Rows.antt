@@ -8,7 +8,7 @@ use Rattle.syntax.specs.declared.types.SignedAtom.{SignedAtom}
 use Rattle.syntax.specs.declared.types.Mark.{Mark}
 use Rattle.syntax.specs.declared.types.Mark.TheVariants.{Open}
 use Rattle.tables.specs.Marks.{stands, standing, signed, cleared}
-use Rattle.tables.specs.Listed.{all_open, listed, Each, Placed}
+use Rattle.tables.specs.Listed.{all_open, listed, Each, Sought}
 use Rattle.tables.proofs.Counts.{standing_set, stands_signed, set_open}
 use Rattle.tables.proofs.Refused.{open_from}
 use Rattle.tables.proofs.Zero.{no_row}
@@ -88,16 +88,16 @@ absent (r ∷ rs) a none =
 
 -- what a search of the rows finds
 pub placed : (rs : List SignedAtom) (a : ℕ) (o : Option ℕ) → Each rs → a < 10240
-    → MatchOption o (All (λ (r : SignedAtom). r.atom ≢ a) rs) (λ i. (i < length rs) × HoldsAt (λ (r : SignedAtom). r.atom ≡ a) rs i) → Placed rs a (Ok o)
+    → MatchOption o (All (λ (r : SignedAtom). r.atom ≢ a) rs) (λ i. (i < length rs) × HoldsAt (λ (r : SignedAtom). r.atom ≡ a) rs i) → Sought rs a (Ok o)
 placed rs a None e h none = (omega (arith, listed_length rs), open_from _ (absent rs a none))
 placed rs a (Some i) e h (lt, at) =
     (omega (arith, listed_length rs), lt, λ d. (at d, ap (λ k. get_or (listed rs) k Open) (sym (at d)) ∙ sign_at rs i d lt e))
 
-pub placed_some : (rs : List SignedAtom) (a : ℕ) (o : Option ℕ) → Placed rs a (Ok o) → is_some o ≡ true → (a < length (listed rs)) × (stands (get_or (listed rs) a Open) ≡ 1)
+pub placed_some : (rs : List SignedAtom) (a : ℕ) (o : Option ℕ) → Sought rs a (Ok o) → is_some o ≡ true → (a < length (listed rs)) × (stands (get_or (listed rs) a Open) ≡ 1)
 placed_some rs a None p h = absurd (true≢false (sym h))
 placed_some rs a (Some i) p h = (p.0, ap stands (p.2 no_row).1 ∙ stands_signed (get_or rs i no_row).sign)
 
-pub placed_near : (rs : List SignedAtom) (a : ℕ) (o : Option ℕ) → Placed rs a (Ok o) → a < 10240
+pub placed_near : (rs : List SignedAtom) (a : ℕ) (o : Option ℕ) → Sought rs a (Ok o) → a < 10240
 placed_near rs a None p = omega (arith, p.0, listed_length rs)
 placed_near rs a (Some i) p = omega (arith, p.0, listed_length rs)
 

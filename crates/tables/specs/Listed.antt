@@ -21,9 +21,9 @@ abbrev pub Each : List SignedAtom → Type 0
 Each rs = standing (listed rs) ≡ length rs
 
 -- the place of an atom's row; none where the atom is open; refused at or above the reach
-abbrev pub Placed : List SignedAtom → ℕ → Result (Option ℕ) Refusal → Type 0
-Placed rs atom (Ok (Some i)) =
+abbrev pub Sought : List SignedAtom → ℕ → Result (Option ℕ) Refusal → Type 0
+Sought rs atom (Ok (Some i)) =
     (atom < length (listed rs)) × (i < length rs)
     × ((d : SignedAtom) → ((slice_index_or rs i d).atom ≡ atom) × (slice_index_or (listed rs) atom Open ≡ signed (slice_index_or rs i d).sign))
-Placed rs atom (Ok None) = (atom < length (listed rs)) × (slice_index_or (listed rs) atom Open ≡ Open)
-Placed rs atom (Err e) = (length (listed rs) ≤ atom) × (e ≡ BeyondReach)
+Sought rs atom (Ok None) = (atom < length (listed rs)) × (slice_index_or (listed rs) atom Open ≡ Open)
+Sought rs atom (Err e) = (length (listed rs) ≤ atom) × (e ≡ BeyondReach)

@@ -2,7 +2,7 @@
 ghost use Rattle.std.specs.Prelude.{◌≡◌, ◌+◌, ◌<◌, ◌≤◌, [], length, slice_index_or, take, slice_set, All, HoldsAt, MatchOption, ◌≢◌};
 ghost use Rattle.syntax.specs.declared.types.SignedAtom.{SignedAtom};
 ghost use Rattle.tables.specs.Marks.{signed, stands};
-ghost use Rattle.tables.specs.Listed.{Each, Placed, all_open, listed};
+ghost use Rattle.tables.specs.Listed.{Each, Sought, all_open, listed};
 ghost use Rattle.tables.specs.Within.{listed_within};
 
 use crate::table::BranchTable;
@@ -11,7 +11,8 @@ use syntax::types::{Mark, Refusal, SignedAtom};
 // How many atoms a listed table has a mark for.
 const REACH: usize = 10240;
 
-// The first `len` rows are those of the atoms that stand.
+// The first `len` rows are those of the atoms that stand. The rows are lent, and no `ArrayVec`, since a library crate
+// owns no memory.
 #[derive(Drop)]
 pub struct ListedTable<'a> {
     rows: &'a mut [SignedAtom],
@@ -62,7 +63,7 @@ impl<'a> ListedTable<'a> {
 
     // The place of an atom's row, if it has one.
     fn place(&self, atom: usize) -> Result<Option<usize>, Refusal>
-        ensures { Placed (take self.now.len self.now.rows.now) atom result }
+        ensures { Sought (take self.now.len self.now.rows.now) atom result }
     {
         if atom >= REACH {
             return Err(Refusal::BeyondReach);

@@ -1,6 +1,5 @@
 // A branch table with four atoms to a byte.
-ghost use Rattle.std.specs.Prelude.{◌≡◌, ℕ, ◌*◌, ◌/◌, ◌%◌, ◌^◌, ◌<◌, ◌≤◌, min, length, replicate, ◌≢◌, slice_index_or, slice_set};
-ghost use Rattle.tables.specs.Marks.{signed};
+ghost use Rattle.std.specs.Prelude.{◌≡◌, ℕ, ◌^◌, ◌<◌, length, replicate, ◌≢◌, slice_set};
 ghost use Rattle.tables.specs.Packed.{digit, meant, packed_marks, packed_reach, beyond, wiped};
 ghost use Rattle.tables.specs.Within.{packed_within};
 

@@ -1,5 +1,5 @@
 // The calls of a stack that change nothing, and how one is made.
-ghost use Rattle.std.specs.Prelude.{◌≡◌, ◌<◌, [], length, Decides, slice_index_or};
+ghost use Rattle.std.specs.Prelude.{◌≡◌, [], length, Decides};
 ghost use Rattle.tables.specs.Stacks.{Placed};
 ghost use Rattle.tables.specs.Items.{items, slots_of, loan_of};
 
