@@ -7,7 +7,7 @@ ghost use Rattle.classes.specs.Leaders.{leader_of, JoinsNone};
 ghost use Rattle.tableau.specs.Signs.{StandsIn};
 
 use books::book::Book;
-use classes::clash::{clashes, clashes_at};
+use classes::classed::Classed;
 use classes::table::ClassTable;
 use syntax::numbers::atom_at;
 use syntax::types::{Ground, SignedAtom};
@@ -31,7 +31,12 @@ pub(crate) fn renew<B: Book, T: BranchTable>(book: &B, table: &T, classes: &mut 
 {
     let counts = book.counts();
     *classes = ClassTable::of(counts, table);
-    clashes(counts, table, classes)
+    Classed {
+        counts,
+        table,
+        classes,
+    }
+    .clashes()
 }
 
 // The same after one atom was told on a branch that these classes fit and that did not clash.
@@ -55,7 +60,12 @@ pub(crate) fn refresh<B: Book, T: BranchTable>(
             if joins(classes, g, l.sign) {
                 renew(book, table, classes)
             } else {
-                clashes_at(counts, table, classes, g, l.sign)
+                Classed {
+                    counts,
+                    table,
+                    classes,
+                }
+                .clashes_at(g, l.sign)
             }
         }
         None => renew(book, table, classes),

@@ -9,7 +9,7 @@ ghost use Rattle.tableau.specs.Judged.{lent, size_refusal, Searched, Judged, Rig
 use crate::search::decide;
 use crate::verdict::Verdict;
 use books::book::Book;
-use classes::model::write_model;
+use classes::classed::Classed;
 use classes::table::ClassTable;
 use syntax::counts::Counts;
 use syntax::numbers::atom_count;
@@ -93,7 +93,12 @@ pub fn judge<B: Book, T: BranchTable>(
     table.clear();
     let mut classes = ClassTable::of(counts, table);
     if search(book, table, trail, choices, &mut classes) {
-        let _ = write_model(counts, table, &classes, model);
+        let branch = Classed {
+            counts,
+            table,
+            classes: &classes,
+        };
+        let _ = branch.write_model(model);
         Ok(Verdict::Consistent)
     } else {
         Ok(Verdict::Contradictory)
