@@ -2,6 +2,7 @@
 use Rattle.std.proofs.Common.{◌≡◌, ℕ, ◌+◌, ◌<◌, ◌≤◌, Bool, true, List, length, get_or, take, set, Decides, sym, refl, ap, ◌∙◌, subst, ⊎_elim, arith, length-set, get_or-set_other, get_or-set_same, below_more}
 use Rattle.std.proofs.lemmas.List.{drop-set-lt, get_or-take, length-take-le}
 use Rattle.std.proofs.lemmas.Bool.{cases_eq, eqb-true, eq-eqb, and_from, and_parts}
+use Rattle.std.proofs.lemmas.Bool.Decides.{same_from_decides}
 use Rattle.syntax.specs.declared.types.Ground.{Ground}
 use Rattle.syntax.specs.declared.types.Ground.TheVariants.{Same, Prop, Rel}
 use Rattle.syntax.specs.declared.types.Mark.{Mark}
@@ -82,39 +83,35 @@ module _ (c : Counts) (I : Interpretation) (s : Symbol) (before : List ℕ) wher
 is_yes_yes : (m : Mark) → is_yes m ≡ true → m ≡ Yes
 is_yes_yes m e = grind arith
 
-same_from : (s t : Bool) → (s ≡ true → t ≡ true) → (t ≡ true → s ≡ true) → s ≡ t
-same_from s t f g = grind arith
-
 -- the pairs for which a symbol holds tell which of its atoms hold in the branch's own model
 module _ (v : View) (small : (a : ℕ) → v.leader a < 32) where
   holding_tells :
       (s : Symbol) (pairs : Pairs) (x y : ℕ) (r : Bool) → Holding v s pairs → y < width v.counts s →
       Decides r (Has pairs (v.leader x) (v.leader y)) → r ≡ value (own_of v) (atom_with s x y)
-  holding_tells Same' pairs x y r is hy d =
-      same_from _ _
-      (λ e. eq-eqb _ _ ((is _ _).0 (d.0 e)).0)
-      (λ e. d.1 ((is _ _).1 (eqb-true _ _ e, small x)))
+  holding_tells Same' pairs x y r is hy d = same_from_decides r _ d (λ e. (is _ _).1 (eqb-true _ _ e, small x), λ h. eq-eqb _ _ ((is _ _).0 h).0)
   holding_tells (Prop' p) pairs x y r is hy d =
-      same_from _ _
-      (λ e.
-      let (u, hu, (f, (w, hw, (k, m)))) = (is _ _).0 (d.0 e) in
-      any_in v.counts.names _ u hu (and_from _ _ (eq-eqb _ _ f) (ap is_yes m)))
-      (λ e.
-      let (u, hu, two) = any_out v.counts.names _ e in
-      let (f, m) = and_parts _ _ two in
-      d.1 ((is _ _).1 (u, hu, (eqb-true _ _ f, (y, hy, (refl, is_yes_yes _ m))))))
+      same_from_decides r _ d (
+        λ e.
+            let (u, hu, two) = any_out v.counts.names _ e in
+            let (f, m) = and_parts _ _ two in
+            (is _ _).1 (u, hu, (eqb-true _ _ f, (y, hy, (refl, is_yes_yes _ m)))),
+        λ h.
+            let (u, hu, (f, (w, hw, (k, m)))) = (is _ _).0 h in
+            any_in v.counts.names _ u hu (and_from _ _ (eq-eqb _ _ f) (ap is_yes m)),
+      )
   holding_tells (Rel' q) pairs x y r is hy d =
-      same_from _ _
-      (λ e.
-      let (u, hu, (f, (w, hw, (k, m)))) = (is _ _).0 (d.0 e) in
-      any_in v.counts.names _ u hu (and_from _ _ (eq-eqb _ _ f)
-      (any_in v.counts.names _ w hw (and_from _ _ (eq-eqb _ _ k) (ap is_yes m)))))
-      (λ e.
-      let (u, hu, two) = any_out v.counts.names _ e in
-      let (f, more) = and_parts _ _ two in
-      let (w, hw, three) = any_out v.counts.names _ more in
-      let (k, m) = and_parts _ _ three in
-      d.1 ((is _ _).1 (u, hu, (eqb-true _ _ f, (w, hw, (eqb-true _ _ k, is_yes_yes _ m))))))
+      same_from_decides r _ d (
+        λ e.
+            let (u, hu, two) = any_out v.counts.names _ e in
+            let (f, more) = and_parts _ _ two in
+            let (w, hw, three) = any_out v.counts.names _ more in
+            let (k, m) = and_parts _ _ three in
+            (is _ _).1 (u, hu, (eqb-true _ _ f, (w, hw, (eqb-true _ _ k, is_yes_yes _ m)))),
+        λ h.
+            let (u, hu, (f, (w, hw, (k, m)))) = (is _ _).0 h in
+            any_in v.counts.names _ u hu (and_from _ _ (eq-eqb _ _ f)
+            (any_in v.counts.names _ w hw (and_from _ _ (eq-eqb _ _ k) (ap is_yes m)))),
+      )
 
   pub read_tells :
       (s : Symbol) (pairs : Pairs) (x y a b : ℕ) (r : Bool) → Holding v s pairs → y < width v.counts s → a ≡ v.leader x → b ≡ v.leader y →
