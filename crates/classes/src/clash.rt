@@ -13,7 +13,8 @@ use syntax::types::{Ground, Mark};
 use tables::table::BranchTable;
 
 impl<'a, T: BranchTable> Classed<'a, T> {
-    // Whether an atom of the symbol and the first name has the mark, its second name having the leader `q`.
+    // Whether an atom of the symbol and the first name has the mark, its second name having the leader `q`. It stands
+    // apart from `meets`, since the proof of an `any` inside another does not close.
     fn row_meets(&self, symbol: Symbol, x: u8, q: u8, mark: Mark) -> bool
         ensures { LawfulSymbol self.now.counts symbol → x < self.now.counts.names → Decides result (MeetsRow (view T.marks self.now) symbol mark x q) }
     {
