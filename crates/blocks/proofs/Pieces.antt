@@ -85,11 +85,11 @@ module _ {X : Type 0} (f : X → List ℕ) (P : X → Type 0) (m : ℕ) (sizes :
       let size : length bytes ≡ m * n = omega (arith, div-add-mod' (length bytes) m, mul_comm m n) in
       Decides-like r (found n bytes size)
       (λ w k i.
-          let all = All-weaker P (λ x. length (f x) ≡ m) sizes w.0 w.1 in
-          let same : m * length w.0 ≡ m * n = sym (joined_length f m w.0 all) ∙ ap length (sym w.2) ∙ size in
-          let count : length w.0 ≡ n = sym (mul-div_cancel_left (length w.0) pos) ∙ ap (λ j. j / m) same ∙ mul-div_cancel_left n pos in
-          let Q : List ℕ → Type 0 = λ ys. MadeOne f P (part (m * k) m ys) in
-          subst Q (sym w.2) (lost w.0 k w.1 (omega arith)))
+      let all = All-weaker P (λ x. length (f x) ≡ m) sizes w.0 w.1 in
+      let same : m * length w.0 ≡ m * n = sym (joined_length f m w.0 all) ∙ ap length (sym w.2) ∙ size in
+      let count : length w.0 ≡ n = sym (mul-div_cancel_left (length w.0) pos) ∙ ap (λ j. j / m) same ∙ mul-div_cancel_left n pos in
+      let Q : List ℕ → Type 0 = λ ys. MadeOne f P (part (m * k) m ys) in
+      subst Q (sym w.2) (lost w.0 k w.1 (omega arith)))
       d
 
 pub all_of : {X : Type 0} (P : X → Type 0) → ((x : X) → P x) → (xs : List X) → AllByRecursion P xs

@@ -13,7 +13,9 @@ use syntax::counts::Counts;
 fn check_sum(bytes: &[u8]) -> u16
     ensures { result ≡ sum bytes.now % 65536 }
 {
-    bytes.iter().fold(0, |sum: u16, b| sum.wrapping_add(u16::from(*b)))
+    bytes
+        .iter()
+        .fold(0, |sum: u16, b| sum.wrapping_add(u16::from(*b)))
 }
 
 // Whether the check of a block is right.
@@ -36,7 +38,9 @@ fn are_literals(counts: Counts, bytes: &[u8]) -> bool
     requires { length bytes.now % 5 ≡ 0 }
     ensures { Decides result (Made literal_code (LawfulLiteral counts) bytes.now) }
 {
-    bytes.chunks_exact(5).all(|code| decode_literal(counts, code).is_some())
+    bytes
+        .chunks_exact(5)
+        .all(|code| decode_literal(counts, code).is_some())
 }
 
 // Whether 42 bytes are those of a lawful clause.
@@ -56,10 +60,14 @@ fn are_clauses(counts: Counts, bytes: &[u8]) -> bool
     requires { length bytes.now % 42 ≡ 0 }
     ensures { Decides result (Made clause_bytes (Lawful counts) bytes.now) }
 {
-    bytes.chunks_exact(42).all(|clause| is_clause(counts, clause))
+    bytes
+        .chunks_exact(42)
+        .all(|clause| is_clause(counts, clause))
 }
 
-// The contents of a block of this kind with this count; nothing where its first four bytes are others.
+// The contents of a block of this kind (0 a head, 1 clauses) with this count; nothing where its first four
+// bytes are others. The kind stays the byte of the format: it is only compared, so an enum would be turned
+// back into it.
 pub(crate) fn contents<'a>(block: &'a [u8], kind: u8, count: usize) -> Option<&'a [u8]>
     requires { length block.now ≡ 512 }
     ensures { MatchOption result ((body : List ℕ) → take 510 block.now ≢ 75 ∷ (66 ∷ (kind ∷ (count ∷ body)))) (λ body. take 510 block.now ≡ 75 ∷ (66 ∷ (kind ∷ (count ∷ body.now)))) }

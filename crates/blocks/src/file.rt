@@ -50,10 +50,13 @@ pub(crate) fn wrong_check(bytes: &[u8]) -> Option<usize>
     requires { LengthRight bytes.now }
     ensures { Searched (ChecksRight bytes.now) (block_count bytes.now) result }
 {
-    bytes.chunks_exact(512).position(|block| !check_is_right(block))
+    bytes
+        .chunks_exact(512)
+        .position(|block| !check_is_right(block))
 }
 
-// The first clause block whose layout is wrong, where n clauses are due.
+// The first clause block whose layout is wrong, where n clauses are due. It goes by the number b, since b
+// says how many clauses are due.
 pub(crate) fn wrong_clauses(bytes: &[u8], counts: Counts, n: usize) -> Option<usize>
     requires size { LengthRight bytes.now }
     requires head { HeadIs bytes.now counts n }

@@ -10,8 +10,8 @@ returns-then-len-gt256 c = λ d n w.
     let b = c.args.body.now in
     let p = body_parts b d n w.1 in
     elim c.then-len-gt256.branch [
-    then-len-gt256-via-then-len-gt256 v ↦ omega (arith, p.low, p.high, w.0, v.if-len-gt256)
-    | then-len-gt256-via-else-len-gt256+then-not-are_zeros v ↦ false≢true (v.if-not-are_zeros.ensures.1 (body_rest b (take (length b - 5) (drop 5 b)) d n c.requires (take_rest b 5) w))
+      | then-len-gt256-via-then-len-gt256 v ↦ omega (arith, p.low, p.high, w.0, v.if-len-gt256)
+      | then-len-gt256-via-else-len-gt256+then-not-are_zeros v ↦ false≢true (v.if-not-are_zeros.ensures.1 (body_rest b (take (length b - 5) (drop 5 b)) d n c.requires (take_rest b 5) w))
     ]
 
 pub returns-in_default-new : goal.returns-in_default-new

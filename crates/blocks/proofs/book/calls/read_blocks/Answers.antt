@@ -14,9 +14,9 @@ pub returns-then-is_empty-clause-read : goal.returns-then-is_empty-clause-read
 returns-then-is_empty-clause-read c =
     let bytes = c.args.bytes.now in
     let wrong : LengthRight bytes → ⊥ = λ l. elim c.then-is_empty.branch [
-      then-is_empty-via-then-is_empty w ↦ let e = eqb-true (length bytes) 0 (sym c.is_empty.ensures ∙ w.if-is_empty.true) in omega (arith, l.0)
+      | then-is_empty-via-then-is_empty w ↦ let e = eqb-true (length bytes) 0 (sym c.is_empty.ensures ∙ w.if-is_empty.true) in omega (arith, l.0)
       | then-is_empty-via-else-is_empty+then-bytes-ne0 w ↦ w.if-bytes-ne0.true l.1
-      ] in
+    ] in
     (inl (refl, wrong), λ d cls w. wrong (file_right bytes d cls w).sized)
 
 pub returns-in-Some-clause-read : goal.returns-in-Some-clause-read
