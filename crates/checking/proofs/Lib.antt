@@ -1,4 +1,4 @@
 pub mod Congruence
+pub mod Ranges
 pub mod Searching
-pub mod Copying
 pub mod Found

@@ -1,125 +1,69 @@
 -- The search over the assignments of a clause's variables.
-use Rattle.std.proofs.Common.{◌≡◌, ℕ, zero, suc, ◌<◌, ◌≤◌, Bool, false, cond, sym, ap, ◌∙◌, subst, ⊎_elim, arith}
-use Rattle.std.proofs.ByRecursion.{all-has}
-use Rattle.std.proofs.lemmas.Bool.{cond_both, cond-true, cond-false, cases_Bool, cases_lt}
+use Rattle.std.proofs.Common.{◌≡◌, ℕ, ◌<◌, ◌≤◌, Bool, true, false, List, length, refl, sym, ap, ◌∙◌, subst, arith}
+use Rattle.std.proofs.ByRecursion.{all-has, has_get_or, All-get_or}
+use Rattle.std.proofs.lemmas.Bool.{false≢true, cond-false}
+use Rattle.std.specs.Bool.{MatchBool, Decides}
+use Rattle.std.specs.List.{AllWithin, HoldsAt}
+use Rattle.syntax.specs.declared.types.Literal.{Literal}
+use Rattle.syntax.specs.declared.types.Atom.TheVariants.{Same}
+use Rattle.syntax.specs.declared.types.Term.TheVariants.{Name}
 use Rattle.syntax.specs.declared.counts.Counts.{Counts}
 use Rattle.syntax.specs.Lawful.{Lawful, LawfulLiteral}
-use Rattle.semantics.specs.Meaning.{Clause, Interpretation, value, Assignment, Assigns, four, SomeHolds, Satisfies}
-use Rattle.semantics.specs.Checks.{uses, Proper, FirstFailing}
-use Rattle.semantics.proofs.Instances.{four_at, four_below, ground_same}
+use Rattle.semantics.specs.Meaning.{Clause, Interpretation, value, Assignment, Assigns, SomeHolds, Satisfies}
+use Rattle.semantics.specs.Bytes.{BytesOf}
+use Rattle.semantics.specs.Checks.{uses, Before, FirstFailing}
+use Rattle.semantics.proofs.Instances.{ground_same}
 use Rattle.semantics.proofs.Checking.{own_variables}
-use Rattle.checking.specs.declared.four.Four.{Four}
-use Rattle.checking.specs.Order.{Few, Below, Inside, rank, rank_of, Next, Last}
-use Rattle.checking.specs.Search.{Limits, Passed}
+use Rattle.checking.specs.Values.{Told}
+use Rattle.instances.specs.declared.ranges.Ranges.{Ranges}
+use Rattle.instances.specs.Assignments.{names_of, RunsThrough, size, nth_assignment}
+use Rattle.instances.proofs.Ranging.{within, each_assigns, each_reached, each_later}
 
--- one limit
-module _ (c : Counts) (b : Bool) (l : ℕ) (e : l ≡ cond b c.names 1) where
-  limit_some : 1 ≤ l
-  limit_some = let P : ℕ → Type 0 = λ n. 1 ≤ n in subst P (sym e) (cond_both b c.names 1 P (λ _. c.some) (λ _. omega arith))
+-- what the test of each literal comes to
+pub any_holds :
+    (c : Counts) (bytes : List ℕ) (I : Interpretation) (σ : Assignment) (cl : Clause) (r : Bool) → Assigns c σ → BytesOf c I bytes → Lawful c cl →
+    MatchBool r ((k : ℕ) × (k < length cl) × HoldsAt (λ l. Told c bytes σ l true) cl k) (AllWithin (λ l. Told c bytes σ l false) cl 0 (length cl)) →
+    Decides r (SomeHolds I σ cl)
+any_holds c bytes I σ cl true assigns b law (k, lt, at) =
+    let d : Literal = record { sign = true; atom = Same (Name 0) (Name 0) } in
+    (λ _. (_, has_get_or cl k d lt, ((at d).so assigns (All-get_or (LawfulLiteral c) cl k d lt law.each) I b).0 refl), λ _. refl)
+any_holds c bytes I σ cl false assigns b law h = (
+  λ e. absurd (false≢true e),
+  λ t.
+      let told : Told c bytes σ t.0 false = subst (λ l. Told c bytes σ l false) (t.1.2 t.0) (h t.1.0 t.0 (omega arith) t.1.1) in
+      (told.so assigns (all-has (LawfulLiteral c) cl t.0 law.each t.1) I b).1 t.2,
+)
 
-  limit_names : l ≤ c.names
-  limit_names = let P : ℕ → Type 0 = λ n. n ≤ c.names in subst P (sym e) (cond_both b c.names 1 P (λ _. omega arith) (λ _. c.some))
+-- what holds rests on the four names alone
+regroup : (c : Counts) (I : Interpretation) (cl : Clause) (σ τ : Assignment) → Lawful c cl → ((v : ℕ) → v < 4 → σ v ≡ τ v) → SomeHolds I σ cl → SomeHolds I τ cl
+regroup c I cl σ τ law e t =
+    (t.0, t.1, sym (ap (value I) (ground_same c σ τ t.0.atom e (all-has (LawfulLiteral c) cl t.0 law.each t.1))) ∙ t.2)
 
-  limit_unused : (x : ℕ) → x < l → b ≡ false → x ≡ 0
-  limit_unused x h f = let g = e ∙ cond-false b c.names 1 f in omega arith
+module _ (c : Counts) (I : Interpretation) (cl : Clause) (r : Ranges) (law : Lawful c cl) (is : RunsThrough c cl r) (k : ℕ) (before : (n : ℕ) → n < k → SomeHolds I (names_of (nth_assignment r n)) cl) where
+  -- each assignment was tried
+  pub passed_all : size r ≤ k → Satisfies c I cl
+  passed_all all =
+      own_variables c I cl (λ τ p.
+      let (n, h, e) = each_reached c cl r τ is p in
+      regroup c I cl (names_of (nth_assignment r n)) τ law e (before n (omega arith)))
 
-  limit_in : (x : ℕ) → x < c.names → (b ≡ false → x ≡ 0) → x < l
-  limit_in x h f =
-      ⊎_elim
-      (λ t. let g = e ∙ cond-true b c.names 1 t in omega arith)
-      (λ t. let g = f t in omega (arith, limit_some))
-      (cases_Bool b)
-
-module _ (c : Counts) (cl : Clause) (l : Four) (lim : Limits c cl l) where
-  pub few : Few l
-  few =
-      let x = limit_names c _ l.x lim.at_x in let y = limit_names c _ l.y lim.at_y in
-      let z = limit_names c _ l.z lim.at_z in let w = limit_names c _ l.w lim.at_w in
-      ((limit_some c _ l.x lim.at_x, omega arith), (limit_some c _ l.y lim.at_y, omega arith), (limit_some c _ l.z lim.at_z, omega arith), (limit_some c _ l.w lim.at_w, omega arith))
-
-  pub assigns : (x y z w : ℕ) → Below l x y z w → Assigns c (four x y z w)
-  assigns x y z w b =
-      four_below c.names x y z w
-      (omega (arith, limit_names c _ l.x lim.at_x))
-      (omega (arith, limit_names c _ l.y lim.at_y))
-      (omega (arith, limit_names c _ l.z lim.at_z))
-      (omega (arith, limit_names c _ l.w lim.at_w))
-
-  unused : (x y z w : ℕ) → Below l x y z w → (v : ℕ) → v < 4 → uses v cl ≡ false → four x y z w v ≡ 0
-  unused x y z w b zero h e = limit_unused c _ l.x lim.at_x x b.0 e
-  unused x y z w b (suc zero) h e = limit_unused c _ l.y lim.at_y y b.1 e
-  unused x y z w b (suc (suc zero)) h e = limit_unused c _ l.z lim.at_z z b.2 e
-  unused x y z w b (suc (suc (suc v))) h e =
-      let three : suc (suc (suc v)) ≡ 3 = omega arith in
-      limit_unused c _ l.w lim.at_w w b.3 (ap (λ (u : ℕ). uses u cl) (sym three) ∙ e)
-
-  proper : (x y z w : ℕ) → Below l x y z w → Proper c cl (four x y z w)
-  proper x y z w b = record { assigns = assigns x y z w b; unused = unused x y z w b }
-
-  below : (τ : Assignment) → Proper c cl τ → Below l (τ 0) (τ 1) (τ 2) (τ 3)
-  below τ p = (
-    limit_in c _ l.x lim.at_x (τ 0) (p.assigns 0 (omega arith)) (p.unused 0 (omega arith)),
-    limit_in c _ l.y lim.at_y (τ 1) (p.assigns 1 (omega arith)) (p.unused 1 (omega arith)),
-    limit_in c _ l.z lim.at_z (τ 2) (p.assigns 2 (omega arith)) (p.unused 2 (omega arith)),
-    limit_in c _ l.w lim.at_w (τ 3) (p.assigns 3 (omega arith)) (p.unused 3 (omega arith)),
-  )
-
--- the order of assignments is that of the ranks
-rises : (l : Four) (σ τ : Assignment) → Few l → Below l (σ 0) (σ 1) (σ 2) (σ 3) → (n : ℕ) → n < 4 → ((u : ℕ) → u < n → σ u ≡ τ u) → σ n < τ n → rank (σ 0) (σ 1) (σ 2) (σ 3) < rank (τ 0) (τ 1) (τ 2) (τ 3)
-rises l σ τ f b zero h a lt = omega arith
-rises l σ τ f b (suc zero) h a lt = omega (arith, a 0 (omega arith))
-rises l σ τ f b (suc (suc zero)) h a lt = omega (arith, a 0 (omega arith), a 1 (omega arith))
-rises l σ τ f b (suc (suc (suc zero))) h a lt = omega (arith, a 0 (omega arith), a 1 (omega arith), a 2 (omega arith))
-rises l σ τ f b (suc (suc (suc (suc n)))) h a lt = absurd (omega arith)
-
--- literals hold under an assignment as under its four names
-regroup : (c : Counts) (I : Interpretation) (cl : Clause) (τ : Assignment) → Lawful c cl → SomeHolds I (four (τ 0) (τ 1) (τ 2) (τ 3)) cl → SomeHolds I τ cl
-regroup c I cl τ lawful t =
-    let σ = four (τ 0) (τ 1) (τ 2) (τ 3) in
-    let law = all-has (LawfulLiteral c) cl t.0 lawful.each t.1 in
-    (t.0, t.1, ap (value I) (ground_same c τ σ t.0.atom (λ v h. sym (four_at τ v h)) law) ∙ t.2)
-
--- how far the search has come
-pub passed_none : (I : Interpretation) (cl : Clause) (l : Four) → Passed I cl l 0
-passed_none I cl l x y z w b h = absurd (omega arith)
-
-same_rank : (I : Interpretation) (cl : Clause) (l f : Four) (x y z w : ℕ) → Few l → Inside l f → Below l x y z w → rank x y z w ≡ rank_of f → SomeHolds I (four f.x f.y f.z f.w) cl → SomeHolds I (four x y z w) cl
-same_rank I cl l f x y z w few i b e t =
-    let ex : f.x ≡ x = omega arith in
-    let ey : f.y ≡ y = omega arith in
-    let ez : f.z ≡ z = omega arith in
-    let ew : f.w ≡ w = omega arith in
-    let P : Assignment → Type 0 = λ σ. SomeHolds I σ cl in
-    let all : four f.x f.y f.z f.w ≡ four x y z w = cc in
-    subst P all t
-
-pub passed_upto : (I : Interpretation) (cl : Clause) (l f : Four) → Few l → Inside l f → Passed I cl l (rank_of f) → SomeHolds I (four f.x f.y f.z f.w) cl → (x y z w : ℕ) → Below l x y z w → rank x y z w ≤ rank_of f → SomeHolds I (four x y z w) cl
-passed_upto I cl l f few i p t x y z w b h =
-    ⊎_elim
-    (λ lt. p x y z w b lt)
-    (λ ge. same_rank I cl l f x y z w few i b (omega arith) t)
-    (cases_lt (rank x y z w) (rank_of f))
-
-pub passed_more : (I : Interpretation) (cl : Clause) (l f g : Four) → Few l → Inside l f → Passed I cl l (rank_of f) → SomeHolds I (four f.x f.y f.z f.w) cl → Next l f g → Passed I cl l (rank_of g)
-passed_more I cl l f g few i p t n x y z w b h = passed_upto I cl l f few i p t x y z w b (n.none x y z w b h)
-
-pub passed_all :
-    (c : Counts) (I : Interpretation) (cl : Clause) (l f : Four) → Limits c cl l → Lawful c cl → Inside l f → Passed I cl l (rank_of f) →
-    SomeHolds I (four f.x f.y f.z f.w) cl → Last l f → Satisfies c I cl
-passed_all c I cl l f lim lawful i p t last =
-    own_variables c I cl
-    (λ τ pr. let b = below c cl l lim τ pr in
-    regroup c I cl τ lawful (passed_upto I cl l f (few c cl l lim) i p t (τ 0) (τ 1) (τ 2) (τ 3) b (last (τ 0) (τ 1) (τ 2) (τ 3) b)))
-
-pub stopped :
-    (c : Counts) (I : Interpretation) (cl : Clause) (l f : Four) → Limits c cl l → Lawful c cl → Inside l f → Passed I cl l (rank_of f) →
-    (SomeHolds I (four f.x f.y f.z f.w) cl → ⊥) → FirstFailing c I cl (four f.x f.y f.z f.w)
-stopped c I cl l f lim lawful i p none =
-    let σ = four f.x f.y f.z f.w in
-    record {
-      proper = proper c cl l lim f.x f.y f.z f.w i;
-      fails = none;
-      earlier = λ τ pr before.
-          let b = below c cl l lim τ pr in
-          regroup c I cl τ lawful (p (τ 0) (τ 1) (τ 2) (τ 3) b (rises l τ σ (few c cl l lim) b before.at before.variable before.alike before.lower));
-    }
+  -- and this is the first that fails
+  pub stopped : k < size r → (SomeHolds I (names_of (nth_assignment r k)) cl → ⊥) → FirstFailing c I cl (names_of (nth_assignment r k))
+  stopped inside none =
+      let σ = names_of (nth_assignment r k) in
+      record {
+        proper = record {
+          assigns = each_assigns c cl r k is;
+          unused = λ v h no. let w = within r k v h in let e = is v h ∙ cond-false (uses v cl) c.names 1 no in omega arith;
+        };
+        fails = none;
+        earlier = λ τ p b.
+            let (n, h, e) = each_reached c cl r τ is p in
+            let first : Before (names_of (nth_assignment r n)) σ = record {
+              at = b.at;
+              variable = b.variable;
+              alike = λ u lt. e u (omega (arith, b.variable)) ∙ b.alike u lt;
+              lower = let f = e b.at b.variable in let l = b.lower in omega arith;
+            } in
+            regroup c I cl (names_of (nth_assignment r n)) τ law e (before n (each_later r n k h inside first));
+      }

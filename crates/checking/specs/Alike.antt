@@ -1,8 +1,10 @@
 -- When bytes are bits, and when they do not tell two names apart.
-use Rattle.std.specs.Prelude.{◌≡◌, ℕ, ◌<◌, List, length, slice_index}
+use Rattle.std.specs.Prelude.{◌≡◌, ℕ, ◌<◌, List, length, Some, None, Option, slice_index}
 use Rattle.syntax.specs.declared.types.Ground.TheVariants.{Prop, Rel}
 use Rattle.syntax.specs.declared.counts.Counts.{Counts}
-use Rattle.semantics.specs.Bytes.{byte_at, SameBy}
+use Rattle.semantics.specs.Meaning.{Interpretation}
+use Rattle.semantics.specs.Bytes.{byte_at, SameBy, BytesOf}
+use Rattle.checking.specs.declared.candidate.Candidate.{Candidate}
 
 -- each byte is 0 or 1
 abbrev pub Bits : List ℕ → Type 0
@@ -53,3 +55,8 @@ pub record Tested (c : Counts) (bytes : List ℕ) : Type 0 where
   pub bits : Bits bytes
   pub reflexive : Reflexive c bytes
   pub like : AllLike c bytes
+
+-- bytes taken exactly where some interpretation over the counts has them
+abbrev pub Accepted : Counts → List ℕ → Option Candidate → Type 0
+Accepted c bytes (Some m) = (m.counts ≡ c) × (m.bytes.now ≡ bytes) × (I : Interpretation) × BytesOf c I bytes
+Accepted c bytes None = (I : Interpretation) → BytesOf c I bytes → ⊥

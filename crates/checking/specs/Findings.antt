@@ -1,20 +1,19 @@
 -- Every finding, case by case.
-use Rattle.std.specs.Prelude.{List, Ok, Err, Result, slice_index}
+use Rattle.std.specs.Prelude.{List, Some, None, Option, Ok, Err, Result, slice_index}
 use Rattle.syntax.specs.declared.types.Refusal.{Refusal}
 use Rattle.syntax.specs.declared.counts.Counts.{Counts}
 use Rattle.semantics.specs.Meaning.{Clause, Interpretation, four, Model}
 use Rattle.semantics.specs.Checks.{satisfied, failing, FailsAt}
 use Rattle.semantics.specs.Checks as checks
-use Rattle.checking.specs.declared.finding.Finding.{Finding}
-use Rattle.checking.specs.declared.finding.Finding.TheVariants.{Satisfied, Failing}
+use Rattle.checking.specs.declared.finding.Failure.{Failure}
 
 -- satisfied, or the clause and the names of the variables 0 to 3
-abbrev pub listed : Finding → checks.Finding
-listed Satisfied = satisfied
-listed (Failing i names) = failing i (slice_index names 0) (slice_index names 1) (slice_index names 2) (slice_index names 3)
+abbrev pub listed : Option Failure → checks.Finding
+listed None = satisfied
+listed (Some f) = failing f.clause (slice_index f.names 0) (slice_index f.names 1) (slice_index f.names 2) (slice_index f.names 3)
 
 -- an answer as the specification lists it
-abbrev pub answered : Result Finding Refusal → Result checks.Finding Refusal
+abbrev pub answered : Result (Option Failure) Refusal → Result checks.Finding Refusal
 answered (Ok f) = Ok (listed f)
 answered (Err e) = Err e
 

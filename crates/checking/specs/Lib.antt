@@ -1,5 +1,3 @@
 pub mod Alike
 pub mod Values
-pub mod Order
-pub mod Search
 pub mod Findings

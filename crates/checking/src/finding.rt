@@ -1,9 +1,8 @@
-// What a check finds.
+// What fails where an interpretation is no model.
 
-// The interpretation is a model; or the first clause that fails, and the names of the variables 0 to 3
-// in its first failing assignment.
+// The first clause that fails, and the names of the variables 0 to 3 in its first failing assignment.
 #[derive(Clone, Copy)]
-pub enum Finding {
-    Satisfied,
-    Failing { clause: usize, names: [u8; 4] },
+pub struct Failure {
+    pub clause: usize,
+    pub names: [u8; 4],
 }

@@ -2,7 +2,7 @@ use books::supposition::Supposition;
 use books::working::WorkingBook;
 use checking::bytes::is_interpretation;
 use checking::checks;
-use checking::finding::Finding;
+use checking::finding::Failure;
 use std::test::Fail;
 use syntax::counts::Counts;
 use syntax::types::{Atom, Literal, Refusal, Term};
@@ -32,21 +32,21 @@ fn example() -> Result<WorkingBook, Refusal> {
     Ok(book)
 }
 
-fn satisfied(r: Result<Finding, Refusal>) -> bool {
+fn satisfied(r: Result<Option<Failure>, Refusal>) -> bool {
     match r {
-        Ok(Finding::Satisfied) => true,
+        Ok(None) => true,
         _ => false,
     }
 }
 
-fn failing(r: Result<Finding, Refusal>, i: usize, at: [u8; 4]) -> bool {
+fn failing(r: Result<Option<Failure>, Refusal>, i: usize, at: [u8; 4]) -> bool {
     match r {
-        Ok(Finding::Failing { clause, names }) => clause == i && names == at,
+        Ok(Some(Failure { clause, names })) => clause == i && names == at,
         _ => false,
     }
 }
 
-fn refused(r: Result<Finding, Refusal>) -> bool {
+fn refused(r: Result<Option<Failure>, Refusal>) -> bool {
     match r {
         Err(e) => e.cause() == 9,
         _ => false,

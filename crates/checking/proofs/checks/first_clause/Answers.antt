@@ -10,5 +10,4 @@ loop-i-preserved g c I b = below_more _ _ (c.loop-i.invariant I b) (c.in_default
 
 pub returns : goal.returns
 returns g c I b =
-    let book = c.args.book.now in
-    model (g.B.Book.counts book) (g.B.Book.clauses book) I b.over (λ k h. c.loop-i.invariant I b k (omega arith))
+    model c.args.candidate.now.counts (g.B.Book.clauses c.args.book.now) I b.over (λ k h. c.loop-i.invariant I b k (omega arith))

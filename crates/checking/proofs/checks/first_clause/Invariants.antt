@@ -6,4 +6,4 @@ use Rattle.checking.proofs.checks.first_clause.Given as goal
 -- the clauses before i are satisfied
 abbrev pub invariant-loop-i : goal.invariant-loop-i
 invariant-loop-i g l =
-    InEach (g.B.Book.counts l.book) l.bytes (λ I. (k : ℕ) → k < l.i → Satisfies (g.B.Book.counts l.book) I (get_or (g.B.Book.clauses l.book) k []))
+    InEach l.candidate.counts l.candidate.bytes.now (λ I. (k : ℕ) → k < l.i → Satisfies l.candidate.counts I (get_or (g.B.Book.clauses l.book) k []))
