@@ -33,24 +33,15 @@ fn example() -> Result<WorkingBook, Refusal> {
 }
 
 fn satisfied(r: Result<Option<Failure>, Refusal>) -> bool {
-    match r {
-        Ok(None) => true,
-        _ => false,
-    }
+    r == Ok(None)
 }
 
-fn failing(r: Result<Option<Failure>, Refusal>, i: usize, at: [u8; 4]) -> bool {
-    match r {
-        Ok(Some(Failure { clause, names })) => clause == i && names == at,
-        _ => false,
-    }
+fn failing(r: Result<Option<Failure>, Refusal>, clause: usize, names: [u8; 4]) -> bool {
+    r == Ok(Some(Failure { clause, names }))
 }
 
 fn refused(r: Result<Option<Failure>, Refusal>) -> bool {
-    match r {
-        Err(e) => e.cause() == 9,
-        _ => false,
-    }
+    r == Err(Refusal::NotInterpretation)
 }
 
 // The bytes: same 00 01 10 11, P 0 1, R 00 01 10 11.
