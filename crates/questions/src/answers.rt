@@ -1,4 +1,6 @@
 // What the questions answer. specs/Asked.antt says of each case when it is due.
+ghost use Rattle.std.specs.Prelude.{◌≡◌};
+ghost use Rattle.questions.specs.Asked.{named_so};
 
 // Of a ground literal: the book has no model; every model makes it hold; none does; some do and some
 // do not.
@@ -18,4 +20,18 @@ pub enum Sameness {
     Equal,
     Distinct,
     Open,
+}
+
+// The answer on two names, from the answer on the literal that says that they are one thing.
+impl From<Certainty> for Sameness {
+    ghost from_gives = { λ answer s. s ≡ named_so answer };
+
+    fn from(answer: Certainty) -> Sameness {
+        match answer {
+            Certainty::Contradictory => Sameness::Contradictory,
+            Certainty::Sure => Sameness::Equal,
+            Certainty::Excluded => Sameness::Distinct,
+            Certainty::Open => Sameness::Open,
+        }
+    }
 }

@@ -3,47 +3,38 @@ ghost use Rattle.std.specs.Prelude.{◌≡◌, ℕ, ◌≤◌, List, [], ◌∷�
 ghost use Rattle.semantics.specs.Judgements.{Consistent};
 ghost use Rattle.syntax.specs.Lawful.{GroundLiteral};
 ghost use Rattle.books.specs.Suppositions.{unit, counts_with, clauses_with};
-ghost use Rattle.tableau.specs.Judged.{lent, Kept};
-ghost use Rattle.questions.specs.Asked.{opposite as opposite_by, sameness_literal as same_by, of_both, named_so, question_refusal, Askable, SettledWith, Asked, AskedNames, UnlessRefused};
+ghost use Rattle.tables.specs.Lent.{answer};
+ghost use Rattle.tables.specs.Spaces.{SameMemory};
+ghost use Rattle.tableau.specs.Judged.{lent_in, Kept};
+ghost use Rattle.questions.specs.Asked.{opposite as opposite_by, sameness_literal as same_by, of_both, ask_refusal, Askable, SettledWith, Asked, AskedNames, UnlessRefused};
 
 use crate::answers::{Certainty, Sameness};
 use crate::verdicts::is_consistent;
 use books::book::Book;
 use books::supposition::Supposition;
-use syntax::counts::Counts;
 use syntax::lawful::is_ground_literal;
-use syntax::numbers::atom_count;
 use syntax::types::{Atom, Literal, Refusal, Term};
 use tableau::branch::find_branch;
-use tables::stack::Choice;
+use tables::space::Space;
 use tables::table::BranchTable;
 
-// Why a question is refused, if it is.
-fn refusal(
-    counts: Counts,
-    clauses: usize,
+// Whether the question can be put.
+fn check<B: Book, T: BranchTable>(
+    book: &B,
     l: Literal,
-    reach: usize,
-    room: usize,
-    trail: usize,
-    choices: usize,
-) -> Option<Refusal>
-    ensures { result ≡ question_refusal counts clauses l reach room trail choices }
+    space: &Space<'_, T>,
+) -> Result<(), Refusal>
+    ensures { result ≡ answer (ask_refusal (B.counts book.now) (B.clauses book.now) l (lent_in T.BranchTable space.now [])) }
 {
-    let count = atom_count(counts);
+    let counts = book.counts();
     if !is_ground_literal(counts, l) {
-        return Some(Refusal::Unlawful);
+        return Err(Refusal::Unlawful);
     }
-    if reach < count || room < count {
-        return Some(Refusal::TableSmall);
+    space.check_room(counts)?;
+    if book.len() > 65527 {
+        return Err(Refusal::TooMany);
     }
-    if trail < count || choices < count {
-        return Some(Refusal::StackSmall);
-    }
-    if clauses > 65527 {
-        return Some(Refusal::TooMany);
-    }
-    None
+    Ok(())
 }
 
 // The literal with the other sign.
@@ -58,10 +49,10 @@ fn opposite(l: Literal) -> Literal
 
 // The book with the literal as a further clause.
 fn with_literal<B: Book>(book: B, l: Literal) -> Supposition<B>
-    requires lawful { GroundLiteral (B.Book.counts book) l }
-    requires few { length (B.Book.clauses book) ≤ 65527 }
-    ensures counts { counts_with B.Book.counts result ≡ B.Book.counts book }
-    ensures clauses { clauses_with B.Book.counts B.Book.clauses result ≡ B.Book.clauses book ++ unit l ∷ [] }
+    requires lawful { GroundLiteral (B.counts book) l }
+    requires few { length (B.clauses book) ≤ 65527 }
+    ensures counts { counts_with B.counts result ≡ B.counts book }
+    ensures clauses { clauses_with B.counts B.clauses result ≡ B.clauses book ++ unit l ∷ [] }
 {
     let mut layer = Supposition::over(book);
     let _ = layer.suppose(l);
@@ -69,18 +60,18 @@ fn with_literal<B: Book>(book: B, l: Literal) -> Supposition<B>
 }
 
 // Whether the book and the literal together have a model.
-fn has_model_with<B: Book, T: BranchTable>(
-    book: &B,
-    l: Literal,
-    table: &mut T,
-    trail: &mut [u16],
-    choices: &mut [Choice],
-) -> bool
-    requires { Askable (B.Book.counts book.now) (B.Book.clauses book.now) l (lent T.BranchTable table.old trail.old choices.old []) }
-    ensures right { Decides result (Consistent (B.Book.counts book.now) (B.Book.clauses book.now ++ unit l ∷ [])) }
-    ensures kept { Kept (lent T.BranchTable table.old trail.old choices.old []) (lent T.BranchTable table.new trail.new choices.new []) }
+fn has_model_with<B: Book, T: BranchTable>(book: &B, l: Literal, space: &mut Space<'_, T>) -> bool
+    requires { Askable (B.counts book.now) (B.clauses book.now) l (lent_in T.BranchTable space.old []) }
+    ensures right { Decides result (Consistent (B.counts book.now) (B.clauses book.now ++ unit l ∷ [])) }
+    ensures kept { Kept (lent_in T.BranchTable space.old []) (lent_in T.BranchTable space.new []) }
+    ensures memory { SameMemory space.old space.new }
 {
-    is_consistent(find_branch(&with_literal(book, l), table, trail, choices))
+    is_consistent(find_branch(
+        &with_literal(book, l),
+        space.table,
+        space.trail,
+        space.choices,
+    ))
 }
 
 // The answer where the book with the literal, and with its denial, has a model or not.
@@ -96,19 +87,14 @@ fn certainty(with: bool, without: bool) -> Certainty
 }
 
 // Settles a ground literal, and clears the table.
-fn settle<B: Book, T: BranchTable>(
-    book: &B,
-    l: Literal,
-    table: &mut T,
-    trail: &mut [u16],
-    choices: &mut [Choice],
-) -> Certainty
-    requires { Askable (B.Book.counts book.now) (B.Book.clauses book.now) l (lent T.BranchTable table.old trail.old choices.old []) }
-    ensures { SettledWith (B.Book.counts book.now) (B.Book.clauses book.now) l (lent T.BranchTable table.old trail.old choices.old []) (lent T.BranchTable table.new trail.new choices.new []) result }
+fn settle<B: Book, T: BranchTable>(book: &B, l: Literal, space: &mut Space<'_, T>) -> Certainty
+    requires { Askable (B.counts book.now) (B.clauses book.now) l (lent_in T.BranchTable space.old []) }
+    ensures settled { SettledWith (B.counts book.now) (B.clauses book.now) l (lent_in T.BranchTable space.old []) (lent_in T.BranchTable space.new []) result }
+    ensures memory { SameMemory space.old space.new }
 {
-    let with = has_model_with(book, l, table, trail, choices);
-    let without = has_model_with(book, opposite(l), table, trail, choices);
-    table.clear();
+    let with = has_model_with(book, l, space);
+    let without = has_model_with(book, opposite(l), space);
+    space.table.clear();
     certainty(with, without)
 }
 
@@ -118,25 +104,14 @@ fn settle<B: Book, T: BranchTable>(
 pub fn holds<B: Book, T: BranchTable>(
     book: &B,
     l: Literal,
-    table: &mut T,
-    trail: &mut [u16],
-    choices: &mut [Choice],
+    space: &mut Space<'_, T>,
 ) -> Result<Certainty, Refusal>
-    ensures asked { (model : List ℕ) → Asked (B.Book.counts book.now) (B.Book.clauses book.now) l (lent T.BranchTable table.old trail.old choices.old model) (lent T.BranchTable table.new trail.new choices.new model) result }
-    ensures kept { UnlessRefused table.old table.new result }
+    ensures asked { (model : List ℕ) → Asked (B.counts book.now) (B.clauses book.now) l (lent_in T.BranchTable space.old model) (lent_in T.BranchTable space.new model) result }
+    ensures kept { UnlessRefused space.old space.new result }
+    ensures memory { SameMemory space.old space.new }
 {
-    if let Some(cause) = refusal(
-        book.counts(),
-        book.len(),
-        l,
-        table.reach(),
-        table.capacity(),
-        trail.len(),
-        choices.len(),
-    ) {
-        return Err(cause);
-    }
-    Ok(settle(book, l, table, trail, choices))
+    check(book, l, space)?;
+    Ok(settle(book, l, space))
 }
 
 // The literal that says of two names that they are one thing.
@@ -149,33 +124,17 @@ fn same_literal(a: u8, b: u8) -> Literal
     }
 }
 
-// The answer on two names by the answer on their literal.
-fn sameness(certainty: Certainty) -> Sameness
-    ensures { result ≡ named_so certainty }
-{
-    match certainty {
-        Certainty::Contradictory => Sameness::Contradictory,
-        Certainty::Sure => Sameness::Equal,
-        Certainty::Excluded => Sameness::Distinct,
-        Certainty::Open => Sameness::Open,
-    }
-}
-
 // Whether every model of the book makes two names one thing, none does, or some do and others do not. Refused as
 // 2 where one is no name of the book, and else as `holds` is. Otherwise the table is left clear.
 pub fn same<B: Book, T: BranchTable>(
     book: &B,
     a: u8,
     b: u8,
-    table: &mut T,
-    trail: &mut [u16],
-    choices: &mut [Choice],
+    space: &mut Space<'_, T>,
 ) -> Result<Sameness, Refusal>
-    ensures asked { (model : List ℕ) → AskedNames (B.Book.counts book.now) (B.Book.clauses book.now) a b (lent T.BranchTable table.old trail.old choices.old model) (lent T.BranchTable table.new trail.new choices.new model) result }
-    ensures kept { UnlessRefused table.old table.new result }
+    ensures asked { (model : List ℕ) → AskedNames (B.counts book.now) (B.clauses book.now) a b (lent_in T.BranchTable space.old model) (lent_in T.BranchTable space.new model) result }
+    ensures kept { UnlessRefused space.old space.new result }
+    ensures memory { SameMemory space.old space.new }
 {
-    match holds(book, same_literal(a, b), table, trail, choices) {
-        Ok(answer) => Ok(sameness(answer)),
-        Err(cause) => Err(cause),
-    }
+    Ok(Sameness::from(holds(book, same_literal(a, b), space)?))
 }

@@ -9,9 +9,5 @@ use tableau::verdict::Verdict;
 pub fn is_consistent(answer: Result<Verdict, Refusal>) -> bool
     ensures { result ≡ found answer }
 {
-    match answer {
-        Ok(Verdict::Consistent) => true,
-        Ok(Verdict::Contradictory) => false,
-        Err(_) => false,
-    }
+    matches!(answer, Ok(Verdict::Consistent))
 }

@@ -6,17 +6,16 @@ use Rattle.questions.specs.Asked.{named, Tells}
 use Rattle.questions.proofs.Settling.{settled, after_clear}
 use Rattle.questions.proofs.ask.settle.Goals as goal
 
-pub returns : goal.returns
-returns g c =
+pub returns-clause-settled : goal.returns-clause-settled
+returns-clause-settled g c =
     let k = g.B.Book.counts c.args.book.now in
     let cs = g.B.Book.clauses c.args.book.now in
-    let t = g.T.BranchTable in
     let l = c.args.l in
     let one = c.has_model_with-with.ensures in
     let two = c.has_model_with-without.ensures in
     let is = c.clear.ensures in
     let without = c.has_model_with-without.result in
-    let done = after_clear (t.marks c.args.table.now) (t.marks c.has_model_with-without.new.table) (t.marks c.clear.new.self) is.cleared (two.kept.reach ∙ one.kept.reach) in
+    let done = after_clear _ _ _ is.cleared (two.kept.reach ∙ one.kept.reach) in
     let o : Decides without (Consistent k (cs ++ unit _ ∷ [])) = subst (λ (x : Literal). Decides without (Consistent k (cs ++ unit x ∷ []))) c.opposite.ensures two.right in
     let so = settled k cs l c.has_model_with-with.result without c.requires.ground_one one.right o in
     record {
