@@ -1,8 +1,8 @@
 -- From two searches to the answer.
-use Rattle.std.proofs.Common.{◌≡◌, ℕ, ◌<◌, Bool, true, false, not, List, [], ◌∷◌, ◌++◌, length, None, Ok, Err, Decides, Option, Result, sym, refl, ap, ◌∙◌, subst, inl, inr, arith}
+use Rattle.std.proofs.Common.{◌≡◌, ℕ, ◌<◌, Bool, true, false, not, List, [], ◌∷◌, ◌++◌, length, None, Ok, Err, Decides, Result, sym, refl, ap, ◌∙◌, subst, inl, inr, arith}
 use Rattle.std.proofs.ByRecursion.{has_push}
 use Rattle.std.proofs.lemmas.Bool.{false≢true}
-use Rattle.std.proofs.lemmas.Bool.Decides.{nat_tests, not_from_Decides}
+use Rattle.std.proofs.lemmas.Bool.Decides.{not_from_Decides}
 use Rattle.syntax.specs.declared.types.Term.TheVariants.{Name, Var}
 use Rattle.syntax.specs.declared.types.Atom.{Atom}
 use Rattle.syntax.specs.declared.types.Atom.TheVariants.{Same, Prop, Rel}
@@ -11,8 +11,8 @@ use Rattle.syntax.specs.declared.types.Literal.{Literal}
 use Rattle.syntax.specs.declared.types.Refusal.{Refusal}
 use Rattle.syntax.specs.declared.counts.Counts.{Counts}
 use Rattle.syntax.specs.Lawful.{AtomBy, GroundTerm, GroundLiteral}
-use Rattle.syntax.specs.Decided.{ground_decides}
 use Rattle.syntax.specs.Numbers.{atom_of}
+use Rattle.syntax.specs.Signs.{opposite}
 use Rattle.semantics.specs.Meaning.{Clause, value}
 use Rattle.semantics.specs.Judgements.{Consistent as Consistent', Contradictory, Always, Possible}
 use Rattle.semantics.specs.Suppositions.{unit}
@@ -30,7 +30,7 @@ use Rattle.syntax.specs.declared.types.Mark.{Mark}
 use Rattle.questions.specs.Verdicts.{found}
 use Rattle.questions.specs.declared.answers.Certainty.{Certainty}
 use Rattle.questions.specs.declared.answers.Sameness.{Sameness}
-use Rattle.questions.specs.Asked.{named, opposite, sameness_literal, question_refusal, ask_refusal, Askable, Tells, TellsNames, Asked, AskedNames, of_both, named_so}
+use Rattle.questions.specs.Asked.{named, sameness_literal, Tells, TellsNames, Asked, AskedNames, of_both, named_so}
 use Rattle.questions.proofs.Truths.{some_none, to_names}
 
 -- an atom without variables is the atom over the same names
@@ -87,21 +87,6 @@ supposed_done c cs ls l (Ok u) cs' ls' d h k n = (d.3, d.4)
 supposed_done c cs ls l (Err e) cs' ls' (inl p, q, s) h k n = absurd (p.1 h)
 supposed_done c cs ls l (Err e) cs' ls' (inr (p, q, inl x), s, t) h k n = absurd (omega arith)
 supposed_done c cs ls l (Err e) cs' ls' (inr (p, q, inr x), s, t) h k n = absurd (omega arith)
-
--- a question that is not refused can be put
-pub askable : (c : Counts) (cs : List Clause) (l : Literal) (m : Lent) → ask_refusal c cs l m ≡ None → Askable c cs l m
-askable c cs l m e = record {
-  ground_one = (ground_decides c l).0 (grind (arith, nat_tests));
-  sizes = grind (arith, nat_tests);
-  few = grind (arith, nat_tests);
-}
-
--- no cause of refusal, at what was read of the book and the table
-pub question_read :
-    (o : Option Refusal) (n k : Counts) (len len' : ℕ) (l : Literal) (reach reach' room room' trail choices : ℕ) → o ≡ question_refusal n len l reach room trail choices →
-    n ≡ k → len ≡ len' → reach ≡ reach' → room ≡ room' → question_refusal k len' l reach' room' trail choices ≡ o
-question_read o n k len len' l reach reach' room room' trail choices e en el er eo =
-    sym (e ∙ ap (λ x. question_refusal x len l reach room trail choices) en ∙ ap (λ x. question_refusal k x l reach room trail choices) el ∙ ap (λ x. question_refusal k len' l x room trail choices) er ∙ ap (λ x. question_refusal k len' l reach' x trail choices) eo)
 
 -- what a search answered that was made over the counts k and the clauses ks, at what these are
 pub record SearchedAt (c : Counts) (cs : List Clause) (m m' : Lent) (found-one : Bool) : Type 0 where

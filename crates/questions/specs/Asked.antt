@@ -25,10 +25,6 @@ use Rattle.questions.specs.declared.answers.Sameness.TheVariants as sameness
 abbrev pub named : Atom → Ground
 named a = ground_of (λ _. 0) a
 
--- the literal with the other sign
-abbrev pub opposite : Literal → Literal
-opposite l = record { sign = not l.sign; atom = l.atom }
-
 -- two names are one thing, as a literal
 abbrev pub sameness_literal : ℕ → ℕ → Literal
 sameness_literal a b = record { sign = true; atom = Same (Name a) (Name b) }
@@ -78,11 +74,6 @@ Asked c clauses l m m' r = AskedBy c clauses l (Tells c clauses (named l.atom) l
 
 abbrev pub AskedNames : Counts → List Clause → ℕ → ℕ → Lent → Lent → Result Sameness Refusal → Type 0
 AskedNames c clauses a b m m' r = AskedBy c clauses (sameness_literal a b) (TellsNames c clauses a b) m m' r
-
--- a refused call leaves x as it was
-abbrev pub UnlessRefused : {X Y : Type 0} → X → X → Result Y Refusal → Type 0
-UnlessRefused x y (Ok _) = Unit {0}
-UnlessRefused x y (Err _) = y ≡ x
 
 -- What the parts of a question come to.
 

@@ -2,11 +2,11 @@
 ghost use Rattle.std.specs.Prelude.{◌≡◌, ℕ, ◌≤◌, List, [], ◌∷◌, ◌++◌, length, Decides};
 ghost use Rattle.semantics.specs.Judgements.{Consistent};
 ghost use Rattle.syntax.specs.Lawful.{GroundLiteral};
+ghost use Rattle.syntax.specs.Refusals.{answer, UnlessRefused};
 ghost use Rattle.books.specs.Suppositions.{unit, counts_with, clauses_with};
-ghost use Rattle.tables.specs.Lent.{answer};
 ghost use Rattle.tables.specs.Spaces.{SameMemory};
 ghost use Rattle.tableau.specs.Judged.{lent_in, Kept};
-ghost use Rattle.questions.specs.Asked.{opposite as opposite_by, sameness_literal as same_by, of_both, ask_refusal, Askable, SettledWith, Asked, AskedNames, UnlessRefused};
+ghost use Rattle.questions.specs.Asked.{sameness_literal, of_both, ask_refusal, Askable, SettledWith, Asked, AskedNames};
 
 use crate::answers::{Certainty, Sameness};
 use crate::verdicts::is_consistent;
@@ -35,16 +35,6 @@ fn check<B: Book, T: BranchTable>(
         return Err(Refusal::TooMany);
     }
     Ok(())
-}
-
-// The literal with the other sign.
-fn opposite(l: Literal) -> Literal
-    ensures { result ≡ opposite_by l }
-{
-    Literal {
-        sign: !l.sign,
-        atom: l.atom,
-    }
 }
 
 // The book with the literal as a further clause.
@@ -93,7 +83,7 @@ fn settle<B: Book, T: BranchTable>(book: &B, l: Literal, space: &mut Space<'_, T
     ensures memory { SameMemory space.old space.new }
 {
     let with = has_model_with(book, l, space);
-    let without = has_model_with(book, opposite(l), space);
+    let without = has_model_with(book, !l, space);
     space.table.clear();
     certainty(with, without)
 }
@@ -116,7 +106,7 @@ pub fn holds<B: Book, T: BranchTable>(
 
 // The literal that says of two names that they are one thing.
 fn same_literal(a: u8, b: u8) -> Literal
-    ensures { result ≡ same_by a b }
+    ensures { result ≡ sameness_literal a b }
 {
     Literal {
         sign: true,

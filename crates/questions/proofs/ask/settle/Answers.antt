@@ -16,7 +16,7 @@ returns-clause-settled g c =
     let is = c.clear.ensures in
     let without = c.has_model_with-without.result in
     let done = after_clear _ _ _ is.cleared (two.kept.reach ∙ one.kept.reach) in
-    let o : Decides without (Consistent k (cs ++ unit _ ∷ [])) = subst (λ (x : Literal). Decides without (Consistent k (cs ++ unit x ∷ []))) c.opposite.ensures two.right in
+    let o : Decides without (Consistent k (cs ++ unit _ ∷ [])) = subst (λ (x : Literal). Decides without (Consistent k (cs ++ unit x ∷ []))) c.not.ensures two.right in
     let so = settled k cs l c.has_model_with-with.result without c.requires.ground_one one.right o in
     record {
       left = record {
