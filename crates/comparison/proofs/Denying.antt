@@ -1,52 +1,36 @@
 -- The denials of an instance, supposed one after the other.
-use Rattle.std.proofs.Common.{◌≡◌, ℕ, ◌+◌, ◌≤◌, not, List, [], ◌∷◌, ◌++◌, length, get_or, take, Some, None, Result, sym, refl, ap, ◌∙◌, subst, append_assoc, arith, length-append, length-take}
-use Rattle.std.proofs.lemmas.List.{take_more, take_all}
+use Rattle.std.proofs.Common.{◌≡◌, ◌+◌, ◌≤◌, List, [], ◌∷◌, ◌++◌, length, Result, sym, ap, ◌∙◌, subst, append_assoc, arith, length-append}
+use Rattle.std.specs.List.{AllByRecursion}
 use Rattle.syntax.specs.declared.types.Literal.{Literal}
 use Rattle.syntax.specs.declared.types.Refusal.{Refusal}
 use Rattle.syntax.specs.declared.counts.Counts.{Counts}
-use Rattle.syntax.specs.Lawful.{GroundLiteral}
-use Rattle.semantics.specs.Meaning.{Clause, AllLawful, Assignment, Assigns, ground_of}
-use Rattle.semantics.specs.Suppositions.{unit, denials}
+use Rattle.syntax.specs.Lawful.{LawfulLiteral, GroundLiteral}
+use Rattle.semantics.specs.Meaning.{Clause, Assignment, Assigns}
+use Rattle.semantics.specs.Suppositions.{denials}
 use Rattle.semantics.proofs.Instances.{instance_lawful}
-use Rattle.books.specs.Lists.{literal_at}
 use Rattle.books.specs.Suppositions.{Supposed}
-use Rattle.books.proofs.Readings.{literal_of_list, literal_is, literal_lawful, literal_within}
 use Rattle.instances.specs.Assignments.{denial}
 use Rattle.questions.proofs.Settling.{supposed_done}
 
-denials_push : (σ : Assignment) (xs : Clause) (l : Literal) → denials σ (xs ++ l ∷ []) ≡ denials σ xs ++ unit (ground_of σ l.atom) (not l.sign) ∷ []
-denials_push σ [] l = refl
-denials_push σ (x ∷ xs) l = ap (λ ds. unit (ground_of σ x.atom) (not x.sign) ∷ ds) (denials_push σ xs l)
-
-pub denials_length : (σ : Assignment) (xs : Clause) → length (denials σ xs) ≡ length xs
-denials_length σ [] = refl
-denials_length σ (x ∷ xs) = omega (arith, denials_length σ xs)
-
--- the layer means the clauses cs and the denials of the first j literals of clause i, and holds j literals
-pub record Denied (σ : Assignment) (clauses : List Clause) (i j : ℕ) (cs ds : List Clause) (held : List Literal) : Type 0 where
-  pub so_many : length held ≡ j
-  pub so : ds ≡ cs ++ denials σ (take j (get_or clauses i []))
+-- the layer means the clauses ds and holds the literals held; the denials of the literals left to go through will complete it
+pub record Denying (c : Counts) (σ : Assignment) (cl : Clause) (cs ds : List Clause) (held : List Literal) (left : Clause) : Type 0 where
+  pub lawful : AllByRecursion (LawfulLiteral c) left
+  pub room : length held + length left ≤ 8
+  pub few : length ds + length left ≤ 65535
+  pub so : ds ++ denials σ left ≡ cs ++ denials σ cl
 
 pub deny_more :
-    (c d : Counts) (clauses : List Clause) (σ : Assignment) (i j : ℕ) (l n : Literal) (cs ds es : List Clause) (held holds : List Literal) (r : Result Unit Refusal) →
-    d ≡ c → AllLawful c clauses → Assigns c σ → length cs ≤ 65527 → Some l ≡ literal_at clauses i j → n ≡ denial σ l →
-    Denied σ clauses i j cs ds held → Supposed d ds held n r es holds → Denied σ clauses i (j + 1) cs es holds
-deny_more c d clauses σ i j l n cs ds es held holds r dc lawful assigns few at is before done =
-    let cl = get_or clauses i [] in
-    let h = literal_of_list clauses i j l at in
-    let eight = literal_within c clauses i j l lawful at in
+    (c d : Counts) (σ : Assignment) (cl : Clause) (cs ds es : List Clause) (held holds : List Literal) (l n : Literal) (rest : Clause) (r : Result Unit Refusal) →
+    d ≡ c → Assigns c σ → n ≡ denial σ l → Denying c σ cl cs ds held (l ∷ rest) → Supposed d ds held n r es holds → Denying c σ cl cs es holds rest
+deny_more c d σ cl cs ds es held holds l n rest r dc assigns is before done =
     let g : GroundLiteral d n =
-    subst (λ (x : Literal). GroundLiteral d x) (sym is) (subst (λ (k : Counts). GroundLiteral k (denial σ l)) (sym dc) (instance_lawful c σ l assigns (literal_lawful c clauses i j l lawful at))) in
-    let long : length ds ≡ length cs + length (denials σ (take j cl)) = ap length before.so ∙ length-append cs (denials σ (take j cl)) in
-    let s = supposed_done d ds held n r es holds done g (omega (arith, before.so_many)) (omega (arith, long, denials_length σ (take j cl), length-take j cl)) in
-    let front = denials σ (take j cl) in
+    subst (λ (x : Literal). GroundLiteral d x) (sym is) (subst (λ (k : Counts). GroundLiteral k (denial σ l)) (sym dc) (instance_lawful c σ l assigns before.lawful.0)) in
+    let s = supposed_done d ds held n r es holds done g (omega (arith, before.room)) (omega (arith, before.few)) in
     let last : List Clause = (denial σ l ∷ []) ∷ [] in
-    let more : denials σ (take (j + 1) cl) ≡ front ++ last = ap (denials σ) (take_more cl j l h.1 ∙ ap (λ (x : Literal). take j cl ++ x ∷ []) (sym h.2)) ∙ denials_push σ (take j cl) l in
+    let ends : es ≡ ds ++ last = s.0 ∙ ap (λ (x : Literal). ds ++ (x ∷ []) ∷ []) is in
     record {
-      so_many = ap length s.1 ∙ length-append held (n ∷ []) ∙ omega (arith, before.so_many);
-      so = s.0 ∙ ap (λ (x : Literal). ds ++ (x ∷ []) ∷ []) is ∙ ap (λ (xs : List Clause). xs ++ last) before.so ∙ append_assoc cs front last ∙ ap (λ (xs : List Clause). cs ++ xs) (sym more);
+      lawful = before.lawful.1;
+      room = omega (arith, before.room, ap length s.1, length-append held (n ∷ []));
+      few = omega (arith, before.few, ap length ends, length-append ds last);
+      so = ap (λ (xs : List Clause). xs ++ denials σ rest) ends ∙ append_assoc ds last (denials σ rest) ∙ before.so;
     }
-
-pub deny_all : (clauses : List Clause) (σ : Assignment) (i j : ℕ) (cs ds : List Clause) (held : List Literal) → None ≡ literal_at clauses i j → Denied σ clauses i j cs ds held → ds ≡ cs ++ denials σ (get_or clauses i [])
-deny_all clauses σ i j cs ds held at d =
-    d.so ∙ ap (λ (xs : Clause). cs ++ denials σ xs) (take_all j (get_or clauses i []) (literal_is clauses i j None at))

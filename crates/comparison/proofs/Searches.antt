@@ -1,13 +1,14 @@
 -- From searches over suppositions to books told apart, or every clause followed.
-use Rattle.std.proofs.Common.{◌≡◌, ℕ, ◌<◌, ◌≤◌, Bool, true, false, List, [], ◌++◌, length, get_or, take, drop, None, Ok, Err, Option, Result, sym, refl, ap, ◌∙◌, subst, arith}
-use native.Mathlib.Bridge.{le_prop}
+use Rattle.std.proofs.Common.{◌≡◌, ℕ, ◌<◌, ◌≤◌, Bool, true, false, List, [], ◌++◌, length, get_or, take, drop, Some, None, Ok, Err, Option, Result, sym, refl, ap, ◌∙◌, subst, arith}
 use Rattle.std.proofs.ByRecursion.{has_get_or, all-has}
 use Rattle.std.proofs.lemmas.Bool.Decides.{nat_tests}
 use Rattle.syntax.specs.declared.types.Refusal.{Refusal}
 use Rattle.syntax.specs.declared.counts.Counts.{Counts}
 use Rattle.syntax.specs.Lawful.{Lawful, LawfulLiteral}
+use Rattle.syntax.specs.Refusals.{answer}
 use Rattle.syntax.specs.Numbers.{atoms}
-use Rattle.semantics.specs.Meaning.{Clause, ◌∈◌, Interpretation, value, Assignment, Assigns, SomeHolds, Satisfies}
+use Rattle.syntax.proofs.Counted.{counts_same}
+use Rattle.semantics.specs.Meaning.{Clause, Interpretation, value, Assignment, Assigns, SomeHolds, Satisfies}
 use Rattle.semantics.specs.Bytes.{BytesOf}
 use Rattle.semantics.specs.Branch.{own}
 use Rattle.semantics.specs.Judgements.{Contradictory, Within}
@@ -20,14 +21,14 @@ use Rattle.instances.specs.Assignments.{names_of, RunsThrough, size, nth_assignm
 use Rattle.instances.proofs.Ranging.{each_reached}
 use Rattle.tableau.specs.declared.verdict.Verdict.{Verdict}
 use Rattle.tableau.specs.declared.verdict.Verdict.TheVariants.{Consistent, Contradictory as Contrary}
-use Rattle.tableau.specs.Judged.{Lent, Kept, size_refusal, judge_refusal, Judged}
+use Rattle.tableau.specs.Judged.{Lent, Kept, judge_refusal, Judged}
 use Rattle.tables.specs.Marks.{cleared}
 use Rattle.questions.specs.Verdicts.{found}
 use Rattle.questions.proofs.Truths.{some_none}
 use Rattle.questions.proofs.Settling.{after_clear}
 use Rattle.comparison.specs.declared.answer.Comparison.{Comparison}
 use Rattle.comparison.specs.declared.answer.Comparison.TheVariants.{FirstOnly, SecondOnly, Equal}
-use Rattle.comparison.specs.Compared.{alike, sizes_refusal, compare_refusal, ToldApart, Compares, Comparable, Follows, Parts, Weighed}
+use Rattle.comparison.specs.Compared.{alike, compare_refusal, ToldApart, Compares, Comparable, Follows, Parts, Weighed, Compared}
 
 -- what is lent keeps its sizes over several calls
 pub kept_more : (a b d : Lent) → Kept a b → Kept b d → Kept a d
@@ -39,21 +40,6 @@ kept_more a b d p q = record {
   choices = q.choices ∙ p.choices;
   model = q.model ∙ p.model;
 }
-
-pub kept_none : (a : Lent) → Kept a a
-kept_none a = record { reach = refl; room = refl; loan = refl; trail = refl; choices = refl; model = refl }
-
-judge_sizes : (c : Counts) (a b : Lent) → Kept a b → judge_refusal c b ≡ judge_refusal c a
-judge_sizes c a b k =
-    ap (λ n. size_refusal c n b.room (length b.trail) (length b.choices) (length b.model)) k.reach
-    ∙ ap (λ n. size_refusal c (length a.marks) n (length b.trail) (length b.choices) (length b.model)) k.room
-    ∙ ap (λ n. size_refusal c (length a.marks) a.room n (length b.choices) (length b.model)) k.trail
-    ∙ ap (λ n. size_refusal c (length a.marks) a.room (length a.trail) n (length b.model)) k.choices
-    ∙ ap (λ n. size_refusal c (length a.marks) a.room (length a.trail) (length a.choices) n) k.model
-
-pub comparable_after : (c d : Counts) (one : List Clause) (a b : Lent) → Comparable c d one a → Kept a b → Comparable c d one b
-comparable_after c d one a b h k =
-    record { counts = h.counts; sizes = judge_sizes c a b k ∙ h.sizes; few = h.few }
 
 -- one search
 module _ (c : Counts) (one other : List Clause) (i : ℕ) (inside : i < length other) (σ : Assignment) (assigns : Assigns c σ) (m m' : Lent) where
@@ -80,11 +66,6 @@ module _ (c : Counts) (one other : List Clause) (i : ℕ) (inside : i < length o
       let j2 : Judged c (one ++ denials σ (get_or other i [])) m m' r = subst (λ (xs : List Clause). Judged c xs m m' r) es j1 in
       subst (Parts c one other (Contradictory c (one ++ denials σ (get_or other i []))) m m') (sym eb) (parted_at r j2 n)
 
--- what was told apart after searches that changed nothing
-pub apart_after : (c : Counts) (one other : List Clause) (a b d : Lent) → b.model ≡ a.model → ToldApart c one other b d → ToldApart c one other a d
-apart_after c one other a b d e t =
-    record { by = t.by; holds = t.holds; fails = t.fails; first = t.first; rest = t.rest ∙ ap (drop (atoms c)) e }
-
 -- every instance of a clause was tried
 some_there : (I : Interpretation) (σ τ : Assignment) (c : Counts) (cl : Clause) → Lawful c cl → ((v : ℕ) → v < 4 → σ v ≡ τ v) → SomeHolds I σ cl → SomeHolds I τ cl
 some_there I σ τ c cl law e some =
@@ -102,36 +83,10 @@ pub within : (c : Counts) (one other : List Clause) (k : ℕ) → length other �
 within c one other k all each I model =
     record { over = model.over; all = λ cl has. subst (Satisfies c I) (has.2 []) (each has.0 (omega (arith, has.1)) I model) }
 
--- a clause that stands in the one book follows from it
-pub stands_follows : (c : Counts) (one : List Clause) (cl : Clause) → cl ∈ one → Follows c one cl
-stands_follows c one cl has I model = model.all cl has
-
 -- both directions: the second search, over the counts of the second book, was made after the first
-pub second_only : (c d : Counts) (first second : List Clause) (m m' m'' : Lent) → d ≡ c → m'.model ≡ m.model → Kept m m' → Within c first second → Parts d second first (Within d second first) m' m'' true → Weighed c first second m m'' SecondOnly
-second_only c d first second m m' m'' e f k w p =
-    let q : Kept m' m'' × ToldApart c second first m' m'' = subst (λ (x : Counts). Kept m' m'' × ToldApart x second first m' m'') e p in
-    record { kept = kept_more m m' m'' k q.0; so = (w, apart_after c second first m m' m'' f q.1) }
-
 pub equal : (c d : Counts) (first second : List Clause) (m m' m'' : Lent) → d ≡ c → m'.model ≡ m.model → Kept m m' → Within c first second → Parts d second first (Within d second first) m' m'' false → Weighed c first second m m'' Equal
 equal c d first second m m' m'' e f k w p =
     record { kept = kept_more m m' m'' k p.0; so = ((w, subst (λ (x : Counts). Within x second first) e p.2), p.1 ∙ f) }
-
--- counts are their three numbers
-abbrev counted : (n p r : ℕ) → 1 ≤ n → n ≤ 32 → p ≤ 32 → r ≤ 8 → Counts
-counted n p r s f q u = record { names = n; properties = p; relations = r; some = s; few = f; props = q; rels = u }
-
-counted_same : (n p r : ℕ) (s s' : 1 ≤ n) (f f' : n ≤ 32) (q q' : p ≤ 32) (u u' : r ≤ 8) → counted n p r s f q u ≡ counted n p r s' f' q' u'
-counted_same n p r s s' f f' q q' u u' = λ i. counted n p r (le_prop s s' i) (le_prop f f' i) (le_prop q q' i) (le_prop u u' i)
-
-counts_same : (c d : Counts) → c.names ≡ d.names → c.properties ≡ d.properties → c.relations ≡ d.relations → c ≡ d
-counts_same c d e f g =
-    let N : ℕ → Type 0 = λ n. (s : 1 ≤ n) (t : n ≤ 32) → c ≡ counted n c.properties c.relations s t c.props c.rels in
-    let P : ℕ → Type 0 = λ p. (q : p ≤ 32) → c ≡ counted d.names p c.relations d.some d.few q c.rels in
-    let R : ℕ → Type 0 = λ r. (u : r ≤ 8) → c ≡ counted d.names d.properties r d.some d.few d.props u in
-    let first : N d.names = subst N e (λ s t. counted_same c.names c.properties c.relations c.some s c.few t c.props c.props c.rels c.rels) in
-    let second : P d.properties = subst P f (λ q. first d.some d.few ∙ counted_same d.names c.properties c.relations d.some d.some d.few d.few c.props q c.rels c.rels) in
-    let third : R d.relations = subst R g (λ u. second d.props ∙ counted_same d.names d.properties c.relations d.some d.some d.few d.few d.props d.props c.rels u) in
-    third d.rels
 
 -- a comparison that is not refused can be made
 alike_names : (c d : Counts) → alike c d ≡ true → (d.names ≡ c.names) × (d.properties ≡ c.properties) × (d.relations ≡ c.relations)
@@ -140,31 +95,24 @@ alike_names c d h = (grind (arith, nat_tests), grind (arith, nat_tests), grind (
 pub alike_same : (c d : Counts) → alike c d ≡ true → d ≡ c
 alike_same c d h = let s = alike_names c d h in counts_same d c s.0 s.1 s.2
 
-pub comparable : (c d : Counts) (first second : List Clause) (m : Lent) → compare_refusal c d first second m ≡ None → Comparable c d first m × Comparable d c second m
-comparable c d first second m e =
+done_none : (o : Option Refusal) (u : Unit {0}) → Ok u ≡ answer o → o ≡ None
+done_none None u e = refl
+done_none (Some x) u e = absurd (grind arith)
+
+pub comparable : (c d : Counts) (first second : List Clause) (m : Lent) (u : Unit {0}) → Ok u ≡ answer (compare_refusal c d first second m) → Comparable c d first m × Comparable d c second m
+comparable c d first second m u done =
+    let e = done_none (compare_refusal c d first second m) u done in
     let same : d ≡ c = alike_same c d (grind (arith, nat_tests)) in
     let sizes : judge_refusal c m ≡ None = grind (arith, nat_tests) in (
       record { counts = same; sizes = sizes; few = grind (arith, nat_tests) },
       record { counts = sym same; sizes = ap (λ (x : Counts). judge_refusal x m) same ∙ sizes; few = grind (arith, nat_tests) },
     )
 
--- the causes at what was read of the books and the table
-pub read_so :
-    (o : Option Refusal) (a c b d : Counts) (one one' other other' reach reach' room room' trail choices model : ℕ) → o ≡ sizes_refusal a b one other reach room trail choices model →
-    a ≡ c → b ≡ d → one ≡ one' → other ≡ other' → reach ≡ reach' → room ≡ room' → sizes_refusal c d one' other' reach' room' trail choices model ≡ o
-read_so o a c b d one one' other other' reach reach' room room' trail choices model e ac bd eo et er em =
-    sym (e
-    ∙ ap (λ x. sizes_refusal x b one other reach room trail choices model) ac
-    ∙ ap (λ x. sizes_refusal c x one other reach room trail choices model) bd
-    ∙ ap (λ x. sizes_refusal c d x other reach room trail choices model) eo
-    ∙ ap (λ x. sizes_refusal c d one' x reach room trail choices model) et
-    ∙ ap (λ x. sizes_refusal c d one' other' x room trail choices model) er
-    ∙ ap (λ x. sizes_refusal c d one' other' reach' x trail choices model) em)
-
 -- the table is cleared after the answer
-pub cleared_after : (c : Counts) (first second : List Clause) (m m' m'' : Lent) (r : Comparison) → Weighed c first second m m' r → m''.marks ≡ cleared m'.marks → m''.room ≡ m'.room → m''.loan ≡ m'.loan → m''.trail ≡ m'.trail → m''.choices ≡ m'.choices → m''.model ≡ m'.model → Kept m m'' × (m''.marks ≡ cleared m.marks) × Compares c first second m m'' r
-cleared_after c first second m m' m'' r w em er el et ec eo =
+pub compared : (c d : Counts) (first second : List Clause) (m m' m'' : Lent) (r : Comparison) (u : Unit {0}) → Ok u ≡ answer (compare_refusal c d first second m) → Weighed c first second m m' r → m''.marks ≡ cleared m'.marks → m''.room ≡ m'.room → m''.loan ≡ m'.loan → m''.trail ≡ m'.trail → m''.choices ≡ m'.choices → m''.model ≡ m'.model → Compared c d first second m m'' (Ok r)
+compared c d first second m m' m'' r u none w em er el et ec eo =
     let done = after_clear m.marks m'.marks m''.marks em w.kept.reach in (
+      done_none (compare_refusal c d first second m) u none,
       record {
         reach = done.1;
         room = er ∙ w.kept.room;

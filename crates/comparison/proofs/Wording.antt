@@ -1,14 +1,69 @@
--- Two clauses compared literal by literal.
-use Rattle.std.proofs.Common.{◌≡◌, ℕ, ◌+◌, ◌<◌, ◌≤◌, Bool, true, false, not, List, length, get_or, take, is_some, Some, None, Decides, Option, sym, refl, ap, ◌∙◌, arith}
-use Rattle.std.proofs.lemmas.List.{take_more_same, take_all}
-use Rattle.books.proofs.Readings.{At}
+-- Two clauses compared literal by literal, and a clause looked for in a list.
+use Rattle.std.proofs.Common.{◌≡◌, ℕ, zero, suc, ◌<◌, ◌≤◌, Bool, true, false, List, [], ◌∷◌, length, get_or, Some, None, Decides, Option, sym, refl, ap, ap₂, ◌∙◌, subst, arith}
+use Rattle.std.specs.Bool.{MatchBool}
+use Rattle.std.specs.List.{AllByRecursion, AllWithin, HoldsAt, ContainsAt, range_with_len, slice_get}
+use Rattle.std.specs.Option.{option_eq}
+use Rattle.std.proofs.ByRecursion.{has_get_or}
+use Rattle.std.proofs.lemmas.Bool.{false≢true}
+use Rattle.std.proofs.lemmas.List.FromFn.{get_or-range_with_len, length-range_with_len}
+use Rattle.syntax.specs.declared.types.Literal.{Literal}
+use Rattle.syntax.specs.contracts.types.LiteralPartialEq.TheImpl.{ghosts as literal}
+use Rattle.syntax.specs.declared.counts.Counts.{Counts}
+use Rattle.syntax.specs.Lawful.{Lawful}
+use Rattle.semantics.specs.Meaning.{Clause}
+use Rattle.comparison.proofs.Equality.{literals_decided}
 
-pub same_next : {X : Type 0} (xs ys : List X) (j : ℕ) (x y : X) → j < length xs → j < length ys → x ≡ get_or xs j x → y ≡ get_or ys j y → x ≡ y → take j xs ≡ take j ys → take (j + 1) xs ≡ take (j + 1) ys
-same_next xs ys j x y hx hy ex ey e t =
-    take_more_same xs ys j x hx hy t (sym ex ∙ e ∙ ey ∙ ap (λ d. get_or ys j d) (sym e))
+-- what `==` says of two places of clauses
+options_decided : (a b : Option Literal) (r : Bool) → r ≡ option_eq literal.eq a b → Decides r (a ≡ b)
+options_decided None None r e = (λ _. refl, λ _. e)
+options_decided None (Some y) r e = (λ t. absurd (grind arith), λ i. absurd (grind arith))
+options_decided (Some x) None r e = (λ t. absurd (grind arith), λ i. absurd (grind arith))
+options_decided (Some x) (Some y) r e = let d = literals_decided x y r e in (λ t. ap Some (d.0 t), λ i. d.1 (cc))
 
-pub same_end : {X : Type 0} (xs ys : List X) (j : ℕ) (r : Option X) (b : Bool) → length xs ≤ j → At ys j r → is_some r ≡ not b → take j xs ≡ take j ys → Decides b (xs ≡ ys)
-same_end xs ys j None true h a n t = (λ _. sym (take_all j xs h) ∙ t ∙ take_all j ys a, λ _. refl)
-same_end xs ys j None false h a n t = absurd (grind arith)
-same_end xs ys j (Some y) true h a n t = absurd (grind arith)
-same_end xs ys j (Some y) false h a n t = (λ e. absurd (grind arith), λ e. absurd (omega (arith, a.0, ap length e)))
+pub places_decided : (a b x y : Option Literal) (r : Bool) → a ≡ x → b ≡ y → r ≡ option_eq literal.eq a b → Decides r (x ≡ y)
+places_decided a b x y r ea eb e = let d = options_decided a b r e in (λ t. sym ea ∙ d.0 t ∙ eb, λ i. d.1 (ea ∙ i ∙ sym eb))
+
+-- clauses that agree at their first n places, and have no more, are one
+by_places : (n : ℕ) (xs ys : Clause) → length xs ≤ n → length ys ≤ n → ((j : ℕ) → j < n → slice_get xs j ≡ slice_get ys j) → xs ≡ ys
+by_places n [] [] h k same = refl
+by_places n [] (y ∷ ys) h k same = let e = same 0 (omega arith) in absurd (grind arith)
+by_places n (x ∷ xs) [] h k same = let e = same 0 (omega arith) in absurd (grind arith)
+by_places zero (x ∷ xs) (y ∷ ys) h k same = absurd (omega arith)
+by_places (suc n) (x ∷ xs) (y ∷ ys) h k same =
+    let e : Some x ≡ Some y = same 0 (omega arith) in
+    let head : x ≡ y = cc in
+    ap₂ (λ (z : Literal) (zs : Clause). z ∷ zs) head (by_places n xs ys (omega arith) (omega arith) (λ j lt. same (suc j) (omega arith)))
+
+-- no clause has more than 8 literals, and past the last there is none
+pub eight : (c : Counts) (cs : List Clause) (i : ℕ) → AllByRecursion (Lawful c) cs → length (get_or cs i []) ≤ 8
+eight c [] i h = omega arith
+eight c (cl ∷ cs) zero h = h.0.few
+eight c (cl ∷ cs) (suc i) h = eight c cs i h.1
+
+nth_of : (n j : ℕ) → j < n → get_or (range_with_len 0 n) j 0 ≡ j
+nth_of n j lt = get_or-range_with_len 0 n j 0 lt ∙ omega arith
+
+pub same_clause :
+    (xs ys : Clause) (r : Bool) → length xs ≤ 8 → length ys ≤ 8 →
+    MatchBool r (AllWithin (λ j. slice_get xs j ≡ slice_get ys j) (range_with_len 0 8) 0 8) ((k : ℕ) × (k < 8) × HoldsAt (λ j. slice_get xs j ≡ slice_get ys j → ⊥) (range_with_len 0 8) k) →
+    Decides r (xs ≡ ys)
+same_clause xs ys true h k all =
+    (λ _. by_places 8 xs ys h k (λ j lt. subst (λ (i : ℕ). slice_get xs i ≡ slice_get ys i) (nth_of 8 j lt) (all j 0 (omega arith) lt)), λ _. refl)
+same_clause xs ys false h k found =
+    (λ e. absurd (false≢true e), λ e. absurd (found.2 0 (ap (λ (zs : Clause). slice_get zs (get_or (range_with_len 0 8) found.0 0)) e)))
+
+-- a clause was looked for among the clauses
+pub stands :
+    (cs : List Clause) (cl : Clause) (n : ℕ) (r : Bool) → n ≡ length cs →
+    MatchBool r ((k : ℕ) × (k < length (range_with_len 0 n)) × HoldsAt (λ i. get_or cs i [] ≡ cl) (range_with_len 0 n) k) (AllWithin (λ i. get_or cs i [] ≡ cl → ⊥) (range_with_len 0 n) 0 (length (range_with_len 0 n))) →
+    Decides r (ContainsAt cs cl)
+stands cs cl n true is found =
+    let below : found.0 < n = omega (arith, found.1, length-range_with_len 0 n) in
+    let at : get_or cs found.0 [] ≡ cl = subst (λ (i : ℕ). get_or cs i [] ≡ cl) (nth_of n found.0 below) (found.2 0) in
+    (λ _. subst (ContainsAt cs) at (has_get_or cs found.0 [] (omega arith)), λ _. refl)
+stands cs cl n false is none = (
+  λ e. absurd (false≢true e),
+  λ has.
+      let below : has.0 < n = omega (arith, has.1) in
+      absurd (subst (λ (i : ℕ). get_or cs i [] ≡ cl → ⊥) (nth_of n has.0 below) (none has.0 0 (omega arith) (omega (arith, below, length-range_with_len 0 n))) (has.2 [])),
+)

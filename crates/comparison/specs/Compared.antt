@@ -54,11 +54,6 @@ Compared c d first second m m' (Err e) = (compare_refusal c d first second m ≡
 Compared c d first second m m' (Ok r) =
     (compare_refusal c d first second m ≡ None) × Kept m m' × (m'.marks ≡ cleared m.marks) × Compares c first second m m' r
 
--- a refused call leaves x as it was
-abbrev pub UnlessRefused : {X : Type 0} → X → X → Result Comparison Refusal → Type 0
-UnlessRefused x y (Ok _) = Unit {0}
-UnlessRefused x y (Err _) = y ≡ x
-
 -- What the parts of a comparison come to.
 
 -- nothing stands in the way

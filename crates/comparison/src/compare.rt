@@ -1,76 +1,57 @@
 // The comparison of two books.
 ghost use Rattle.std.specs.Prelude.{◌≡◌};
-ghost use Rattle.tableau.specs.Judged.{lent};
-ghost use Rattle.comparison.specs.Compared.{alike, sizes_refusal, Comparable, Weighed, Compared, UnlessRefused};
+ghost use Rattle.syntax.specs.Refusals.{answer, UnlessRefused};
+ghost use Rattle.tables.specs.Spaces.{SameMemory};
+ghost use Rattle.tableau.specs.Judged.{lent_in};
+ghost use Rattle.comparison.specs.Compared.{compare_refusal, Comparable, Weighed, Compared};
 
 use crate::answer::Comparison;
 use crate::parting::parts;
 use books::book::Book;
-use syntax::counts::Counts;
 use syntax::numbers::atom_count;
 use syntax::types::Refusal;
-use tables::stack::Choice;
+use tables::space::Space;
 use tables::table::BranchTable;
 
-// Whether two books have the same counts.
-fn are_alike(c: Counts, d: Counts) -> bool
-    ensures { result ≡ alike c d }
+// Whether the comparison can be made.
+fn check<F: Book, S: Book, T: BranchTable>(
+    first: &F,
+    second: &S,
+    space: &Space<'_, T>,
+    model: &[u8],
+) -> Result<(), Refusal>
+    ensures { result ≡ answer (compare_refusal (F.counts first.now) (S.counts second.now) (F.clauses first.now) (S.clauses second.now) (lent_in T.BranchTable space.now model.now)) }
 {
-    c.names() == d.names() && c.properties() == d.properties() && c.relations() == d.relations()
-}
-
-// How large everything is that a comparison looks at.
-#[derive(Clone, Copy)]
-struct Sizes {
-    first: usize,
-    second: usize,
-    reach: usize,
-    room: usize,
-    trail: usize,
-    choices: usize,
-    model: usize,
-}
-
-// Why a comparison is refused, if it is.
-fn refusal(c: Counts, d: Counts, sizes: Sizes) -> Option<Refusal>
-    ensures { result ≡ sizes_refusal c d sizes.first sizes.second sizes.reach sizes.room sizes.trail sizes.choices sizes.model }
-{
-    let count = atom_count(c);
-    if !are_alike(c, d) {
-        return Some(Refusal::CountsDiffer);
+    let counts = first.counts();
+    if counts != second.counts() {
+        return Err(Refusal::CountsDiffer);
     }
-    if sizes.reach < count || sizes.room < count {
-        return Some(Refusal::TableSmall);
+    space.check_room(counts)?;
+    if model.len() < atom_count(counts) {
+        return Err(Refusal::MemoryShort);
     }
-    if sizes.trail < count || sizes.choices < count {
-        return Some(Refusal::StackSmall);
+    if first.len() > 65527 || second.len() > 65527 {
+        return Err(Refusal::TooMany);
     }
-    if sizes.model < count {
-        return Some(Refusal::MemoryShort);
-    }
-    if sizes.first > 65527 || sizes.second > 65527 {
-        return Some(Refusal::TooMany);
-    }
-    None
+    Ok(())
 }
 
 // The answer that is due.
 fn weigh<F: Book, S: Book, T: BranchTable>(
     first: &F,
     second: &S,
-    table: &mut T,
-    trail: &mut [u16],
-    choices: &mut [Choice],
+    space: &mut Space<'_, T>,
     model: &mut [u8],
 ) -> Comparison
-    requires forth { Comparable (F.Book.counts first.now) (S.Book.counts second.now) (F.Book.clauses first.now) (lent T.BranchTable table.old trail.old choices.old model.old) }
-    requires back { Comparable (S.Book.counts second.now) (F.Book.counts first.now) (S.Book.clauses second.now) (lent T.BranchTable table.old trail.old choices.old model.old) }
-    ensures { Weighed (F.Book.counts first.now) (F.Book.clauses first.now) (S.Book.clauses second.now) (lent T.BranchTable table.old trail.old choices.old model.old) (lent T.BranchTable table.new trail.new choices.new model.new) result }
+    requires forth { Comparable (F.counts first.now) (S.counts second.now) (F.clauses first.now) (lent_in T.BranchTable space.old model.old) }
+    requires back { Comparable (S.counts second.now) (F.counts first.now) (S.clauses second.now) (lent_in T.BranchTable space.old model.old) }
+    ensures weighed { Weighed (F.counts first.now) (F.clauses first.now) (S.clauses second.now) (lent_in T.BranchTable space.old model.old) (lent_in T.BranchTable space.new model.new) result }
+    ensures memory { SameMemory space.old space.new }
 {
-    if parts(first, second, table, trail, choices, model) {
+    if parts(first, second, space, model) {
         return Comparison::FirstOnly;
     }
-    if parts(second, first, table, trail, choices, model) {
+    if parts(second, first, space, model) {
         return Comparison::SecondOnly;
     }
     Comparison::Equal
@@ -83,27 +64,15 @@ fn weigh<F: Book, S: Book, T: BranchTable>(
 pub fn compare<F: Book, S: Book, T: BranchTable>(
     first: &F,
     second: &S,
-    table: &mut T,
-    trail: &mut [u16],
-    choices: &mut [Choice],
+    space: &mut Space<'_, T>,
     model: &mut [u8],
 ) -> Result<Comparison, Refusal>
-    ensures compared { Compared (F.Book.counts first.now) (S.Book.counts second.now) (F.Book.clauses first.now) (S.Book.clauses second.now) (lent T.BranchTable table.old trail.old choices.old model.old) (lent T.BranchTable table.new trail.new choices.new model.new) result }
-    ensures kept { UnlessRefused table.old table.new result }
+    ensures compared { Compared (F.counts first.now) (S.counts second.now) (F.clauses first.now) (S.clauses second.now) (lent_in T.BranchTable space.old model.old) (lent_in T.BranchTable space.new model.new) result }
+    ensures kept { UnlessRefused space.old space.new result }
+    ensures memory { SameMemory space.old space.new }
 {
-    let sizes = Sizes {
-        first: first.len(),
-        second: second.len(),
-        reach: table.reach(),
-        room: table.capacity(),
-        trail: trail.len(),
-        choices: choices.len(),
-        model: model.len(),
-    };
-    if let Some(cause) = refusal(first.counts(), second.counts(), sizes) {
-        return Err(cause);
-    }
-    let answer = weigh(first, second, table, trail, choices, model);
-    table.clear();
+    check(first, second, space, model)?;
+    let answer = weigh(first, second, space, model);
+    space.table.clear();
     Ok(answer)
 }
