@@ -1,5 +1,5 @@
 -- A list of calls, carried out one after the other.
-use Rattle.std.proofs.Common.{◌≡◌, ℕ, ◌+◌, ◌<◌, ◌≤◌, min, ◌⊎◌, List, [], ◌∷◌, ◌++◌, map, length, get_or, take, drop, set, sym, refl, ap, ◌∙◌, subst, inl, inr, arith}
+use Rattle.std.proofs.Common.{◌≡◌, ℕ, ◌+◌, ◌<◌, min, List, [], ◌∷◌, ◌++◌, map, length, get_or, take, drop, set, sym, refl, ap, ◌∙◌, subst, arith}
 use Rattle.std.proofs.lemmas.List.{map_push, take_more, take_more_set, drop_more, drop-set-lt, length-set}
 use Rattle.syntax.specs.declared.counts.Counts.{Counts}
 use Rattle.semantics.specs.Meaning.{Clause}
@@ -29,8 +29,6 @@ pub record Performing (c : Counts) (cs : List Clause) (deeds : List Deed) (m : L
   pub run : Run c cs steps cs'
   pub handed : HandedOn m steps m'
   pub counts : c' ≡ c
-  pub calls : n ≤ length deeds
-  pub entries : n ≤ length journal
 
 pub perform_none : (c : Counts) (cs : List Clause) (deeds : List Deed) (m : Lent) (journal : List Answer) → Performing c cs deeds m journal 0 c cs m journal
 perform_none c cs deeds m journal = record {
@@ -42,8 +40,6 @@ perform_none c cs deeds m journal = record {
   run = runs.Run.none;
   handed = runs.HandedOn.none;
   counts = refl;
-  calls = omega arith;
-  entries = omega arith;
 }
 
 pub perform_more :
@@ -65,15 +61,13 @@ perform_more c cs deeds m journal n c' cs' m' journal' p deed a c'' cs'' m'' hd 
       run = run_push s p.run (subst (λ (x : Counts). Called x cs' m' deed a cs'' m'') p.counts h);
       handed = handed_push s p.handed refl;
       counts = ec ∙ p.counts;
-      calls = omega arith;
-      entries = omega arith;
     }
 
 pub perform_all :
     (c : Counts) (cs : List Clause) (deeds : List Deed) (m : Lent) (journal : List Answer) (n : ℕ) (c' : Counts) (cs' : List Clause) (m' : Lent) (journal' : List Answer) →
-    Performing c cs deeds m journal n c' cs' m' journal' → (length deeds ≤ n) ⊎ (length journal ≤ n) → Performed c cs deeds m journal n c' cs' m' journal'
-perform_all c cs deeds m journal n c' cs' m' journal' p over = record {
-  many = fewest over;
+    Performing c cs deeds m journal n c' cs' m' journal' → n ≡ min (length deeds) (length journal) → Performed c cs deeds m journal n c' cs' m' journal'
+perform_all c cs deeds m journal n c' cs' m' journal' p many = record {
+  many = many;
   steps = p.steps;
   made = p.made;
   said = p.said;
@@ -84,7 +78,3 @@ perform_all c cs deeds m journal n c' cs' m' journal' p over = record {
   stands = run_stands p.run ∙ ap (standing c cs) p.made;
   right = each_right p.run;
 }
-  where
-    fewest : (length deeds ≤ n) ⊎ (length journal ≤ n) → n ≡ min (length deeds) (length journal)
-    fewest (inl h) = omega (arith, p.calls, p.entries)
-    fewest (inr h) = omega (arith, p.calls, p.entries)

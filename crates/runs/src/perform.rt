@@ -1,7 +1,8 @@
 // Carries out a list of calls.
 ghost use Rattle.std.specs.Prelude.{◌≡◌, map};
 ghost use Rattle.books.specs.Working.{standing_of};
-ghost use Rattle.tableau.specs.Judged.{lent};
+ghost use Rattle.tables.specs.Spaces.{SameMemory};
+ghost use Rattle.tableau.specs.Judged.{lent_in};
 ghost use Rattle.runs.specs.Runs.{meant, Called};
 ghost use Rattle.runs.specs.Laws.{Performed};
 
@@ -11,33 +12,28 @@ use books::working::WorkingBook;
 use comparison::compare::compare;
 use questions::ask::{holds, same};
 use tableau::judge::judge;
-use tables::stack::Choice;
+use tables::space::Space;
 use tables::table::BranchTable;
 
 // Carries out one call.
 fn act<'a, B: Book, T: BranchTable>(
     book: &mut WorkingBook,
     call: Call<'a, B>,
-    table: &mut T,
-    trail: &mut [u16],
-    choices: &mut [Choice],
+    space: &mut Space<'_, T>,
     model: &mut [u8],
 ) -> Answer
     ensures counts { book.new.counts ≡ book.old.counts }
-    ensures called { Called book.old.counts (standing_of book.old) (lent T.BranchTable table.old trail.old choices.old model.old) (meant B.Book call.entry) result (standing_of book.new) (lent T.BranchTable table.new trail.new choices.new model.new) }
+    ensures called { Called book.old.counts (standing_of book.old) (lent_in T.BranchTable space.old model.old) (meant B.Book call.entry) result (standing_of book.new) (lent_in T.BranchTable space.new model.new) }
+    ensures memory { SameMemory space.old space.new }
 {
     match call {
         Call::Enter(literals) => Answer::Changed(book.enter(literals)),
         Call::Strike(k) => Answer::Changed(book.strike(k)),
-        Call::Judge => Answer::Judged(judge(book, table, trail, choices, model)),
-        Call::Same(a, b) => Answer::Same(same(book, a, b, table, trail, choices)),
-        Call::Holds(l) => Answer::Holds(holds(book, l, table, trail, choices)),
-        Call::CompareFirst(other) => {
-            Answer::Compared(compare(book, other, table, trail, choices, model))
-        }
-        Call::CompareSecond(other) => {
-            Answer::Compared(compare(other, book, table, trail, choices, model))
-        }
+        Call::Judge => Answer::Judged(judge(book, space.table, space.trail, space.choices, model)),
+        Call::Same(a, b) => Answer::Same(same(book, a, b, space)),
+        Call::Holds(l) => Answer::Holds(holds(book, l, space)),
+        Call::CompareFirst(other) => Answer::Compared(compare(book, other, space, model)),
+        Call::CompareSecond(other) => Answer::Compared(compare(other, book, space, model)),
     }
 }
 
@@ -46,19 +42,16 @@ fn act<'a, B: Book, T: BranchTable>(
 pub fn perform<'a, B: Book, T: BranchTable>(
     book: &mut WorkingBook,
     calls: &[Call<'a, B>],
-    table: &mut T,
-    trail: &mut [u16],
-    choices: &mut [Choice],
+    space: &mut Space<'_, T>,
     model: &mut [u8],
     journal: &mut [Answer],
 ) -> usize
-    ensures { Performed book.old.counts (standing_of book.old) (map (meant B.Book) calls.now) (lent T.BranchTable table.old trail.old choices.old model.old) journal.old result book.new.counts (standing_of book.new) (lent T.BranchTable table.new trail.new choices.new model.new) journal.new }
+    ensures performed { Performed book.old.counts (standing_of book.old) (map (meant B.Book) calls.now) (lent_in T.BranchTable space.old model.old) journal.old result book.new.counts (standing_of book.new) (lent_in T.BranchTable space.new model.new) journal.new }
+    ensures memory { SameMemory space.old space.new }
 {
-    let mut done = 0;
-    while done < calls.len() && done < journal.len() {
-        let answer = act(book, calls[done], table, trail, choices, model);
-        journal[done] = answer;
-        done += 1;
+    let many = calls.len().min(journal.len());
+    for k in 0..many {
+        journal[k] = act(book, calls[k], space, model);
     }
-    done
+    many
 }
