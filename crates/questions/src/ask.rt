@@ -19,11 +19,7 @@ use tables::space::Space;
 use tables::table::BranchTable;
 
 // Whether the question can be put.
-fn check<B: Book, T: BranchTable>(
-    book: &B,
-    l: Literal,
-    space: &Space<'_, T>,
-) -> Result<(), Refusal>
+fn check<B: Book, T: BranchTable>(book: &B, l: Literal, space: &Space<'_, T>) -> Result<(), Refusal>
     ensures { result ≡ answer (ask_refusal (B.counts book.now) (B.clauses book.now) l (lent_in T.BranchTable space.now [])) }
 {
     let counts = book.counts();
