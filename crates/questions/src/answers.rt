@@ -1,4 +1,5 @@
-// What the questions answer. specs/Asked.antt says of each case when it is due.
+// What the questions answer. specs/Asked.antt says of each case when it is due. Two enums, since of names and of literals people
+// read other words; `Sameness::from` takes the one to the other.
 ghost use Rattle.std.specs.Prelude.{◌≡◌};
 ghost use Rattle.questions.specs.Asked.{named_so};
 
