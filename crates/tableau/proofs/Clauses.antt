@@ -1,7 +1,8 @@
 -- The instances of clauses: every model satisfies them, their atoms are of the book, and a branch that fulfils those of the clauses' own
 -- variables fulfils all.
-use Rattle.std.proofs.Common.{◌≡◌, ℕ, zero, suc, ◌<◌, Bool, true, false, cond, List, [], ◌∷◌, map, length, get_or, sym, refl, ap, ◌∙◌, subst, le_of_suc-le-suc, not-suc-le-zero, arith}
+use Rattle.std.proofs.Common.{◌≡◌, ℕ, zero, suc, ◌<◌, Bool, true, false, cond, List, [], ◌∷◌, map, length, Option, Some, None, Result, Ok, Err, get_or, sym, refl, ap, ◌∙◌, subst, le_of_suc-le-suc, not-suc-le-zero, arith}
 use Rattle.std.specs.List.{ContainsAt as Has}
+use Rattle.std.specs.Option.{is_some}
 use Rattle.std.proofs.ByRecursion.{all-has, All-map, All-weaker, All-get_or, has_get_or}
 use Rattle.std.proofs.lemmas.List.{get_or-map, length-map}
 use Rattle.std.proofs.lemmas.Bool.{cond-true}
@@ -18,9 +19,8 @@ use Rattle.semantics.proofs.Checking.{ground_used}
 use Rattle.tables.specs.Marks.{signed}
 use Rattle.syntax.specs.declared.types.SignedAtom.{SignedAtom}
 use Rattle.tableau.specs.declared.types.FourNames.{FourNames}
-use Rattle.tableau.specs.declared.types.Survey.{Survey}
-use Rattle.tableau.specs.declared.types.Survey.TheVariants as survey
-use Rattle.tableau.specs.Scans.{Surveyed, SurveyedFrom}
+use Rattle.tableau.specs.declared.types.Hopeless.{Hopeless}
+use Rattle.tableau.specs.Scans.{Found, SurveyedFrom}
 use Rattle.tableau.specs.Signs.{Valuation, Holds, SomeOf, StandsIn, signed_atom_of, instance, Modelled}
 use Rattle.tableau.specs.Instances.{names_of, Below, ranges, size, nth_assignment}
 use Rattle.tableau.proofs.Ranging.{uses_in, placed}
@@ -103,14 +103,17 @@ pub fulfilled : (c : Counts) (clauses : List Clause) (marks : Branch) → AllLaw
 fulfilled c clauses marks lawful each cl (i, h, e) σ assigns =
     subst (SomeStands c marks σ) (e []) (stands_always c marks (get_or clauses i []) (All-get_or (Lawful c) clauses i [] h lawful) (each i h) σ assigns)
 
--- a survey of all clauses
-pub surveyed_whole : (c : Counts) (clauses : List Clause) (marks : Branch) → AllLawful c clauses → (r : Survey) → SurveyedFrom c clauses marks 0 r → Surveyed c clauses marks r
-surveyed_whole c clauses marks lawful survey.Fulfilled h = fulfilled c clauses marks lawful (λ i lt. h i lt (omega arith))
-surveyed_whole c clauses marks lawful survey.Broken h = h
-surveyed_whole c clauses marks lawful (survey.Split l) h = h
+-- what is known where nothing was found may be put in other words
+pub found_so : (c : Counts) (clauses : List Clause) (marks : Branch) (P Q : Type 0) (r : Result (Option SignedAtom) Hopeless) → (P → Q) → Found P c clauses marks r → Found Q c clauses marks r
+found_so c clauses marks P Q (Ok None) f h = f h
+found_so c clauses marks P Q (Ok (Some l)) f h = h
+found_so c clauses marks P Q (Err e) f h = h
 
--- and of none
-pub surveyed_less : (c : Counts) (clauses : List Clause) (marks : Branch) (n : ℕ) (r : Survey) → SurveyedFrom c clauses marks n r → SurveyedFrom c clauses marks (length clauses) r
-surveyed_less c clauses marks n survey.Fulfilled h = λ i lt le. absurd (omega arith)
-surveyed_less c clauses marks n survey.Broken h = h
-surveyed_less c clauses marks n (survey.Split l) h = h
+-- where nothing was found, that is so
+pub found_none : (c : Counts) (clauses : List Clause) (marks : Branch) (P : Type 0) (o : Option SignedAtom) → false ≡ is_some o → Found P c clauses marks (Ok o) → P
+found_none c clauses marks P None e h = h
+found_none c clauses marks P (Some l) e h = grind arith
+
+-- a survey of all clauses
+pub surveyed_whole : (c : Counts) (clauses : List Clause) (marks : Branch) → AllLawful c clauses → SurveyedFrom c clauses marks 0 → Fulfilled c clauses marks
+surveyed_whole c clauses marks lawful h = fulfilled c clauses marks lawful (λ i lt. h i lt (omega arith))

@@ -1,23 +1,20 @@
 -- One part of a turn after the other.
-use Rattle.std.proofs.Common.{◌≡◌, ℕ, Bool, true, false, List, get_or, set, sym, refl, ◌∙◌, subst, arith}
+use Rattle.std.proofs.Common.{◌≡◌, ℕ, ◌<◌, Bool, true, false, ◌||◌, List, Ok, Err, get_or, set, sym, refl, ◌∙◌, subst, arith}
 use Rattle.syntax.specs.declared.types.Mark.{Mark}
 use Rattle.syntax.specs.declared.types.Mark.TheVariants.{Open, Yes, No}
 use Rattle.syntax.specs.declared.counts.Counts.{Counts}
-use Rattle.syntax.specs.Numbers.{number_of}
+use Rattle.syntax.specs.Numbers.{atoms, number_of}
 use Rattle.semantics.specs.Meaning.{Clause}
 use Rattle.semantics.specs.Branch.{Branch, Clash, ClassTable, signed as signed_so}
 use Rattle.semantics.proofs.Steps.{no_clash}
 use Rattle.syntax.specs.declared.types.SignedAtom.{SignedAtom}
 use Rattle.tableau.specs.Signs.{Says, OpenIn, Modelled}
 use Rattle.tableau.specs.Branch.{Moment}
-use Rattle.tableau.specs.Scans.{NoModel}
-use Rattle.tableau.specs.Turns.{SoundState, Lighter, Steady, Gone, Passed, Turned, pass_of}
-use Rattle.tableau.specs.declared.types.Pass.{Pass}
-use Rattle.tableau.specs.declared.types.Pass.TheVariants as pass
-use Rattle.tableau.specs.declared.types.Outcome.{Outcome}
-use Rattle.tableau.specs.declared.types.Outcome.TheVariants.{Done, Failed, Moved}
+use Rattle.tableau.specs.Scans.{NoModel, Entails}
+use Rattle.tableau.specs.Turns.{Put, Chosen, SoundState, Empty, Lighter, Steady, Gone, Ready, Passed}
+use Rattle.tableau.specs.declared.types.Hopeless.{Hopeless}
 use Rattle.tables.specs.Marks.{signed}
-use Rattle.tableau.proofs.States.{put_back}
+use Rattle.tableau.proofs.States.{put_back, forces, forced_step, forced_lighter, chosen_step, chosen_lighter}
 
 -- a model's valuation that agrees with the marks: the model agrees with the branch
 pub says_so : (m : Mark) (a s : Bool) → Says m a → m ≡ signed_so s → a ≡ s
@@ -48,19 +45,39 @@ module _ {c : Counts} {clauses : List Clause} where
   pub lighter_then : {m m' m'' : Moment} → Lighter c clauses m m' → Steady c clauses m' m'' → Lighter c clauses m m''
   lighter_then p q = record { frame_is = q.frame_is ∙ p.frame_is; state = q.state; falls = omega (arith, p.falls, q.falls) }
 
--- of a sweep, by whether something was told
-module _ (c : Counts) (clauses : List Clause) (m : Moment) where
-  pub gone_steady : (m' : Moment) (b : Bool) → Gone c clauses m m' b → Steady c clauses m m'
-  gone_steady m' true g = lighter_steady g
-  gone_steady m' false g = g
+  pub empty_on : {m m' m'' : Moment} → Steady c clauses m m' → Empty c clauses m' m'' → Empty c clauses m m''
+  empty_on p q = record { frame_is = q.frame_is ∙ p.frame_is; none = q.none; clear = q.clear }
 
-  pub gone_rest : (m' m'' : Moment) (b : Bool) → Gone c clauses m m' b → Steady c clauses m' m'' → Gone c clauses m m'' b
-  gone_rest m' m'' true g s = lighter_then g s
-  gone_rest m' m'' false g s = steady_on g s
+-- one sweep after another
+module _ (c : Counts) (clauses : List Clause) (m m' m'' : Moment) where
+  pub gone_steady : (b : Bool) → Gone c clauses m m' b → Steady c clauses m m'
+  gone_steady true g = lighter_steady g
+  gone_steady false g = g
 
-  pub gone_pass : (m' : Moment) (b : Bool) → Gone c clauses m m' b → (Clash c m'.marks → ⊥) → Passed c clauses m m' (pass_of b)
-  gone_pass m' true g calm = (g, calm)
-  gone_pass m' false g calm = (g, calm)
+  gone_more : (b v : Bool) → Gone c clauses m m' b → Gone c clauses m' m'' v → Gone c clauses m m'' (b || v)
+  gone_more true true p q = lighter_then p (lighter_steady q)
+  gone_more true false p q = lighter_then p q
+  gone_more false true p q = lighter_on p q
+  gone_more false false p q = steady_on p q
+
+  -- nothing was told yet
+  pub passed_none : (leader : ℕ → ℕ) → Ready c clauses m leader → Passed c clauses m m leader (Ok false)
+  passed_none leader r = (steady_here r.state, r)
+
+  module _ (leader leader' : ℕ → ℕ) (b : Bool) (before : Passed c clauses m m' leader (Ok b)) where
+    pub passed_more : (v : Bool) → Passed c clauses m' m'' leader' (Ok v) → Passed c clauses m m'' leader' (Ok (b || v))
+    passed_more v p = (gone_more b v before.0 p.0, p.1)
+
+    pub passed_lost : (e : Hopeless) → Passed c clauses m' m'' leader' (Err e) → Passed c clauses m m'' leader' (Err e)
+    passed_lost e p = (steady_on (gone_steady b before.0) p.0, p.1)
+
+-- an atom told for a reason, and one chosen
+module _ (c : Counts) (clauses : List Clause) (leader : ℕ → ℕ) (l : SignedAtom) (m m' : Moment) (r : Ready c clauses m leader) (below : l.atom < atoms c) (lies : OpenIn m.marks l) where
+  pub forced_there : Put l m m' → Entails (Modelled c clauses) m.marks l → Lighter c clauses m m'
+  forced_there p why = record { frame_is = p.frame_is; state = forced_step r.state l below lies m' p (forces r.state l why); falls = forced_lighter r.state l below lies m' p }
+
+  pub chosen_there : Chosen l m m' → Lighter c clauses m m'
+  chosen_there p = record { frame_is = p.frame_is; state = chosen_step r.state l below lies m' p r.calm; falls = chosen_lighter r.state l below lies m' p }
 
 -- before a told atom
 module _ (c : Counts) (l : SignedAtom) (ms ms' : List Mark) (is : ms' ≡ set ms l.atom (signed l.sign)) (lies : OpenIn ms l) where
@@ -69,14 +86,3 @@ module _ (c : Counts) (l : SignedAtom) (ms ms' : List Mark) (is : ms' ≡ set ms
 
   pub calm_before : (Clash c ms → ⊥) → Clash c (set ms' l.atom Open) → ⊥
   calm_before calm k = calm (subst (Clash c) (put_back l ms ms' is lies) k)
-
--- what a part of a turn does after a steady one
-pub turned_on : (c : Counts) (clauses : List Clause) (m m' m'' : Moment) (r : Outcome) → Steady c clauses m m' → Turned c clauses m' m'' r → Turned c clauses m m'' r
-turned_on c clauses m m' m'' Done s t = (steady_on s t.0, t.1, t.2)
-turned_on c clauses m m' m'' Failed s t = record { frame_is = t.frame_is ∙ s.frame_is; none = t.none; clear = t.clear }
-turned_on c clauses m m' m'' Moved s t = (lighter_on s t.0, t.1)
-
-pub passed_on : (c : Counts) (clauses : List Clause) (m m' m'' : Moment) (r : Pass) → Steady c clauses m m' → Passed c clauses m' m'' r → Passed c clauses m m'' r
-passed_on c clauses m m' m'' pass.Moved s p = (lighter_on s p.0, p.1)
-passed_on c clauses m m' m'' pass.Rest s p = (steady_on s p.0, p.1)
-passed_on c clauses m m' m'' pass.Hopeless s p = (steady_on s p.0, p.1)

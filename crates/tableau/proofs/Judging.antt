@@ -51,13 +51,13 @@ clear_cleared ms ns clear e =
     ext_get_or Open ns (cleared ms) (e ∙ sym (cleared_length ms)) (λ k h. clear k ∙ sym (cleared_clear ms k))
 
 -- what the search came to
-pub decided_frame : (c : Counts) (clauses : List Clause) (m m' : Moment) (r : Bool) → Decided c clauses m m' r → m'.frame ≡ m.frame
-decided_frame c clauses m m' true d = d.0.frame_is
-decided_frame c clauses m m' false d = d.frame_is
+pub decided_frame : (c : Counts) (clauses : List Clause) (m m' : Moment) (leader : ℕ → ℕ) (r : Bool) → Decided c clauses m m' leader r → m'.frame ≡ m.frame
+decided_frame c clauses m m' leader true d = d.0.frame_is
+decided_frame c clauses m m' leader false d = d.frame_is
 
-pub searched : (c : Counts) (clauses : List Clause) (m m' : Moment) (leader : ℕ → ℕ) (r : Bool) → Decided c clauses m m' r → (r ≡ true → ClassTable c m'.marks leader) → Searched c clauses m'.marks leader r
-searched c clauses m m' leader true d fits = record { classes = fits refl; no_clash = d.2; fulfilled = d.1; beyond = nothing_past d.0.state }
-searched c clauses m m' leader false d fits = (no_model_at_all c clauses d.none, d.clear)
+pub searched : (c : Counts) (clauses : List Clause) (m m' : Moment) (leader : ℕ → ℕ) (r : Bool) → Decided c clauses m m' leader r → Searched c clauses m'.marks leader r
+searched c clauses m m' leader true d = record { classes = d.1.fits; no_clash = d.1.calm; fulfilled = d.2; beyond = nothing_past d.1.state }
+searched c clauses m m' leader false d = (no_model_at_all c clauses d.none, d.clear)
 
 -- with no cause of refusal everything is large enough
 pub record Enough (c : Counts) (reach room trail choices model : ℕ) : Type 0 where

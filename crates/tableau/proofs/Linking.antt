@@ -1,8 +1,9 @@
 -- What an atom that stands says of those of linked names.
-use Rattle.std.proofs.Common.{◌≡◌, ℕ, Bool, List, get_or, sym, ap, ◌∙◌}
+use Rattle.std.proofs.Common.{◌≡◌, ℕ, Bool, true, false, Some, List, get_or, refl, sym, ap, ◌∙◌, arith}
 use Rattle.syntax.specs.declared.types.Ground.{Ground}
 use Rattle.syntax.specs.declared.types.Ground.TheVariants.{Same, Prop, Rel}
-use Rattle.syntax.specs.declared.types.Mark.TheVariants.{Open}
+use Rattle.syntax.specs.declared.types.Mark.{Mark}
+use Rattle.syntax.specs.declared.types.Mark.TheVariants.{Yes, No, Open}
 use Rattle.syntax.specs.declared.counts.Counts.{Counts}
 use Rattle.syntax.specs.Numbers.{number_of, LawfulGround}
 use Rattle.semantics.specs.Meaning.{Clause}
@@ -10,7 +11,7 @@ use Rattle.semantics.specs.Branch.{Branch, mark_at, Alike, same, prop, rel, Clas
 use Rattle.semantics.proofs.Own.{linked_by}
 use Rattle.semantics.proofs.Steps.{alike_value}
 use Rattle.tableau.specs.Signs.{Modelled}
-use Rattle.tableau.specs.Scans.{Entails}
+use Rattle.tableau.specs.Scans.{sign_of, Entails}
 use Rattle.tableau.specs.Variants.{renamed, OneLed}
 use Rattle.tableau.proofs.Going.{says_so}
 
@@ -27,3 +28,11 @@ module _ (c : Counts) (marks : Branch) (leader : ℕ → ℕ) (table : ClassTabl
   variant_follows clauses g x y e l s is h k at v m agrees =
       let so : Agrees c m.by marks = λ f lawful t stands. sym (m.same f lawful) ∙ says_so (get_or marks (number_of c f) Open) (v (number_of c f)) t (agrees (number_of c f)) stands in
       ap v at ∙ m.same (renamed g x y) h ∙ sym (alike_value c marks m.by g (renamed g x y) so (alike g x y l h e)) ∙ so g l s is
+
+-- from the sign that was read to the mark
+pub sign_read : (m : Mark) (s : Bool) → Some s ≡ sign_of m → m ≡ signed s
+sign_read Yes true e = refl
+sign_read Yes false e = grind arith
+sign_read No true e = grind arith
+sign_read No false e = refl
+sign_read Open s e = grind arith

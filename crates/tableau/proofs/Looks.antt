@@ -1,19 +1,23 @@
 -- One more signed atom of an instance looked at.
-use Rattle.std.proofs.Common.{◌≡◌, ℕ, ◌+◌, ◌<◌, ◌⊎◌, List, [], length, get_or, take, Some, None, sym, ap, ◌∙◌, subst, inl, inr, arith}
+use Rattle.std.proofs.Common.{◌≡◌, ℕ, ◌+◌, ◌<◌, ◌⊎◌, Bool, true, false, not, refl, List, [], length, get_or, take, Some, None, sym, ap, ◌∙◌, subst, inl, inr, arith}
 use Rattle.std.specs.List.{ContainsAt as Has}
 use Rattle.std.proofs.ByRecursion.{All-more, All-weaker, has_get_or}
 use Rattle.std.proofs.lemmas.List.{get_or-map, length-map, take_all}
 use Rattle.books.specs.Lists.{literal_at}
 use Rattle.books.proofs.Readings.{literal_of_list, literal_is}
 use Rattle.syntax.specs.declared.types.Literal.{Literal}
+use mathlib.Core.Bool.{beq}
+use Rattle.std.specs.Option.{option_eq, is_some}
 use Rattle.syntax.specs.declared.types.Mark.{Mark}
+use Rattle.syntax.specs.declared.types.Mark.TheVariants.{Yes, No, Open}
+use Rattle.tables.specs.Marks.{signed}
 use Rattle.syntax.specs.declared.counts.Counts.{Counts}
 use Rattle.semantics.specs.Meaning.{Clause, Assignment}
 use Rattle.syntax.specs.declared.types.SignedAtom.{SignedAtom}
 use Rattle.tableau.specs.declared.types.Status.{Status}
 use Rattle.tableau.specs.declared.types.Status.TheVariants.{Fulfilled, Broken, Forced, Loose}
 use Rattle.tableau.specs.Signs.{DeniedIn, OpenIn, signed_atom_of, instance}
-use Rattle.tableau.specs.Scans.{Evaluated, with_open}
+use Rattle.tableau.specs.Scans.{Evaluated, sign_of, with_open}
 
 -- the signed atom of the literal that was read
 pub at_step :
@@ -56,3 +60,23 @@ module _ (ms : List Mark) (c : List SignedAtom) (j : ℕ) (inside : j < length c
   )
   more_open (Forced l) h o = (h.0, h.1)
   more_open (Loose l) h o = h
+
+-- from the sign that was read to the mark
+pub stands_by : (m : Mark) (s : Bool) → true ≡ option_eq beq (sign_of m) (Some s) → m ≡ signed s
+stands_by Yes true e = refl
+stands_by Yes false e = grind arith
+stands_by No true e = grind arith
+stands_by No false e = refl
+stands_by Open s e = grind arith
+
+pub denied_by : (m : Mark) (s : Bool) → false ≡ option_eq beq (sign_of m) (Some s) → is_some (sign_of m) ≡ true → m ≡ signed (not s)
+denied_by Yes true e h = grind arith
+denied_by Yes false e h = refl
+denied_by No true e h = refl
+denied_by No false e h = grind arith
+denied_by Open s e h = grind arith
+
+pub open_by : (m : Mark) → is_some (sign_of m) ≡ false → m ≡ Open
+open_by Yes h = grind arith
+open_by No h = grind arith
+open_by Open h = refl

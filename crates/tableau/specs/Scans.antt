@@ -1,26 +1,24 @@
 -- What a look at an instance finds on a branch.
-use Rattle.std.specs.Prelude.{◌≡◌, ℕ, ◌<◌, ◌≤◌, ◌⊎◌, List, [], length, slice_index_or}
+use Rattle.std.specs.Prelude.{◌≡◌, ℕ, ◌<◌, ◌≤◌, ◌⊎◌, Bool, true, false, List, [], length, Option, Some, None, Result, Ok, Err, slice_index_or}
 use Rattle.std.specs.List.{ContainsAt as Has, AllByRecursion}
 use Rattle.syntax.specs.declared.types.Mark.{Mark}
+use Rattle.syntax.specs.declared.types.Mark.TheVariants.{Yes, No, Open}
 use Rattle.syntax.specs.declared.counts.Counts.{Counts}
 use Rattle.syntax.specs.Numbers.{atoms}
 use Rattle.semantics.specs.Meaning.{Clause}
-use Rattle.semantics.specs.Branch.{Fulfilled as AllFulfilled}
 use Rattle.syntax.specs.declared.types.SignedAtom.{SignedAtom}
-use Rattle.tableau.specs.declared.types.Look.{Look}
-use Rattle.tableau.specs.declared.types.Look.TheVariants.{Stands, Denied, Untold}
 use Rattle.tableau.specs.declared.types.Status.{Status}
 use Rattle.tableau.specs.declared.types.Status.TheVariants.{Fulfilled, Broken, Forced, Loose}
-use Rattle.tableau.specs.declared.types.Survey.{Survey}
-use Rattle.tableau.specs.declared.types.Survey.TheVariants as survey
+use Rattle.tableau.specs.declared.types.Hopeless.{Hopeless}
 use Rattle.tableau.specs.Signs.{Valuation, Holds, Agrees, SomeOf, StandsIn, DeniedIn, OpenIn, instance, Modelled}
 use Rattle.tableau.specs.Instances.{names_of, ranges, size, nth_assignment}
 use Rattle.tableau.specs.Branch.{Models}
 
-abbrev pub Looked : List Mark → SignedAtom → Look → Type 0
-Looked ms l Stands = StandsIn ms l
-Looked ms l Denied = DeniedIn ms l
-Looked ms l Untold = OpenIn ms l
+-- the sign that a mark gives
+abbrev pub sign_of : Mark → Option Bool
+sign_of Yes = Some true
+sign_of No = Some false
+sign_of Open = None
 
 -- each is denied, or is l
 abbrev pub AllBut : List Mark → SignedAtom → List SignedAtom → Type 0
@@ -47,22 +45,21 @@ NoModel M ms = (v : Valuation) → M v → Agrees ms v → ⊥
 abbrev pub Entails : Models → List Mark → SignedAtom → Type 0
 Entails M ms l = (v : Valuation) → M v → Agrees ms v → Holds v l
 
--- every instance is fulfilled; or no model agrees with the marks; or here is an open atom
-abbrev pub Surveyed : Counts → List Clause → List Mark → Survey → Type 0
-Surveyed c clauses ms survey.Fulfilled = AllFulfilled c clauses ms
-Surveyed c clauses ms survey.Broken = NoModel (Modelled c clauses) ms
-Surveyed c clauses ms (survey.Split l) = (l.atom < atoms c) × OpenIn ms l
+-- where nothing was found, P holds; or here is an open atom; or no model agrees with the marks
+abbrev pub Found : Type 0 → Counts → List Clause → List Mark → Result (Option SignedAtom) Hopeless → Type 0
+Found P c clauses ms (Ok None) = P
+Found P c clauses ms (Ok (Some l)) = (l.atom < atoms c) × OpenIn ms l
+Found P c clauses ms (Err _) = NoModel (Modelled c clauses) ms
 
--- the same of one clause: every instance from one on is fulfilled at its own variables
-abbrev pub ClauseSurveyed : Counts → List Clause → List Mark → ℕ → ℕ → Survey → Type 0
-ClauseSurveyed c clauses ms i first survey.Fulfilled =
-    (k : ℕ) → k < size (ranges c (slice_index_or clauses i [])) → first ≤ k → SomeOf (StandsIn ms) (instance c (names_of (nth_assignment (ranges c (slice_index_or clauses i [])) k)) (slice_index_or clauses i []))
-ClauseSurveyed c clauses ms i first survey.Broken = NoModel (Modelled c clauses) ms
-ClauseSurveyed c clauses ms i first (survey.Split l) = (l.atom < atoms c) × OpenIn ms l
+-- the instance of clause i at the k-th assignment of its own variables is fulfilled
+abbrev pub FulfilledAt : Counts → List Clause → List Mark → (i k : ℕ) → Type 0
+FulfilledAt c clauses ms i k =
+    SomeOf (StandsIn ms) (instance c (names_of (nth_assignment (ranges c (slice_index_or clauses i [])) k)) (slice_index_or clauses i []))
+
+-- every instance of clause i is, from one on
+abbrev pub ClauseSurveyed : Counts → List Clause → List Mark → (i first : ℕ) → Type 0
+ClauseSurveyed c clauses ms i first = (k : ℕ) → k < size (ranges c (slice_index_or clauses i [])) → first ≤ k → FulfilledAt c clauses ms i k
 
 -- and of the clauses from one on
-abbrev pub SurveyedFrom : Counts → List Clause → List Mark → ℕ → Survey → Type 0
-SurveyedFrom c clauses ms from survey.Fulfilled =
-    (i : ℕ) → i < length clauses → from ≤ i → (k : ℕ) → k < size (ranges c (slice_index_or clauses i [])) → SomeOf (StandsIn ms) (instance c (names_of (nth_assignment (ranges c (slice_index_or clauses i [])) k)) (slice_index_or clauses i []))
-SurveyedFrom c clauses ms from survey.Broken = NoModel (Modelled c clauses) ms
-SurveyedFrom c clauses ms from (survey.Split l) = (l.atom < atoms c) × OpenIn ms l
+abbrev pub SurveyedFrom : Counts → List Clause → List Mark → ℕ → Type 0
+SurveyedFrom c clauses ms from = (i : ℕ) → i < length clauses → from ≤ i → (k : ℕ) → k < size (ranges c (slice_index_or clauses i [])) → FulfilledAt c clauses ms i k

@@ -4,7 +4,7 @@ ghost use Rattle.tables.specs.declared.stack.Stack.{Stack as ChoiceStack};
 ghost use Rattle.tables.specs.declared.stack.Choice.{Choice as ChoiceRecord};
 ghost use Rattle.tables.specs.Items.{items, slots_of};
 ghost use Rattle.tableau.specs.Turns.{Puttable, Put, Chosen};
-ghost use Rattle.tableau.specs.Views.{moment, Searching, Hopeless, Flips};
+ghost use Rattle.tableau.specs.Views.{moment, Searching, NoHope, Flips};
 
 use books::book::Book;
 use syntax::types::SignedAtom;
@@ -41,15 +41,16 @@ pub(crate) fn choose<T: BranchTable>(
     put(table, trail, l);
 }
 
-// Takes the latest choice back and tells its opposite; with no choice left, takes everything back.
+// Takes the latest choice back and tells its opposite; with no choice left, takes everything back, and
+// answers that there was none.
 pub(crate) fn flip<B: Book, T: BranchTable>(
     book: &B,
     table: &mut T,
     trail: &mut Stack<'_, u16>,
     choices: &mut Stack<'_, Choice>,
-) -> Option<SignedAtom>
+) -> bool
     requires state { Searching B.Book book.now (moment T.BranchTable table.old trail.old choices.old) }
-    requires hopeless { Hopeless B.Book book.now (moment T.BranchTable table.old trail.old choices.old) }
+    requires lost { NoHope B.Book book.now (moment T.BranchTable table.old trail.old choices.old) }
     ensures { Flips B.Book book.now (moment T.BranchTable table.old trail.old choices.old) (moment T.BranchTable table.new trail.new choices.new) result }
 {
     match choices.pop() {
@@ -60,11 +61,11 @@ pub(crate) fn flip<B: Book, T: BranchTable>(
                 sign: !choice.sign,
             };
             put(table, trail, opposite);
-            Some(opposite)
+            true
         }
         None => {
             untell_to(table, trail, 0);
-            None
+            false
         }
     }
 }

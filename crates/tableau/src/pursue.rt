@@ -1,14 +1,14 @@
 // Follows the trail: tells what each atom on it forces.
-ghost use Rattle.tableau.specs.Views.{moment, Set, Fits, Passes};
+ghost use Rattle.tableau.specs.Views.{moment, Set, Passes};
 
-use crate::sweep::{pass_of, sweep};
+use crate::scan::sign_at;
+use crate::sweep::sweep;
 use crate::touch::touch;
-use crate::types::{Hints, Pass};
+use crate::types::{Hints, Hopeless};
 use crate::variants::spread;
 use books::book::Book;
 use classes::table::ClassTable;
 use syntax::numbers::atom_at;
-use syntax::types::Mark;
 use tables::stack::{Choice, Stack};
 use tables::table::BranchTable;
 
@@ -20,19 +20,16 @@ fn follow<B: Book, T: BranchTable>(
     choices: &Stack<'_, Choice>,
     classes: &mut ClassTable,
     atom: u16,
-) -> Pass
+) -> Result<bool, Hopeless>
     requires { Set B.Book book.now (moment T.BranchTable table.old trail.old choices.now) classes.old }
-    ensures passed { Passes B.Book book.now (moment T.BranchTable table.old trail.old choices.now) (moment T.BranchTable table.new trail.new choices.now) result }
-    ensures fits { Fits B.Book book.now (moment T.BranchTable table.new trail.new choices.now) classes.new }
+    ensures { Passes B.Book book.now (moment T.BranchTable table.old trail.old choices.now) (moment T.BranchTable table.new trail.new choices.now) classes.new result }
 {
-    match atom_at(book.counts(), atom as usize) {
-        Some(g) => match table.ask(atom as usize) {
-            Ok(Mark::Yes) => touch(book, table, trail, choices, classes, g, true),
-            Ok(Mark::No) => touch(book, table, trail, choices, classes, g, false),
-            Ok(Mark::Open) => Pass::Rest,
-            Err(_refusal) => Pass::Rest,
-        },
-        None => Pass::Rest,
+    let Some(g) = atom_at(book.counts(), atom as usize) else {
+        return Ok(false);
+    };
+    match sign_at(table, atom as usize) {
+        Some(sign) => touch(book, table, trail, choices, classes, g, sign),
+        None => Ok(false),
     }
 }
 
@@ -44,22 +41,17 @@ fn pursue<B: Book, T: BranchTable>(
     choices: &Stack<'_, Choice>,
     classes: &mut ClassTable,
     from: usize,
-) -> Pass
+) -> Result<bool, Hopeless>
     requires { Set B.Book book.now (moment T.BranchTable table.old trail.old choices.now) classes.old }
-    ensures passed { Passes B.Book book.now (moment T.BranchTable table.old trail.old choices.now) (moment T.BranchTable table.new trail.new choices.now) result }
-    ensures fits { Fits B.Book book.now (moment T.BranchTable table.new trail.new choices.now) classes.new }
+    ensures { Passes B.Book book.now (moment T.BranchTable table.old trail.old choices.now) (moment T.BranchTable table.new trail.new choices.now) classes.new result }
 {
     let mut moved = false;
     let mut at = from;
     while let Some(atom) = trail.at(at) {
-        match follow(book, table, trail, choices, classes, atom) {
-            Pass::Moved => moved = true,
-            Pass::Rest => {}
-            Pass::Hopeless => return Pass::Hopeless,
-        }
+        moved |= follow(book, table, trail, choices, classes, atom)?;
         at += 1;
     }
-    pass_of(moved)
+    Ok(moved)
 }
 
 // Tells what is forced, from where the hints say.
@@ -70,21 +62,19 @@ pub(crate) fn propagate<B: Book, T: BranchTable>(
     choices: &Stack<'_, Choice>,
     classes: &mut ClassTable,
     hints: &mut Hints,
-) -> Pass
+) -> Result<bool, Hopeless>
     requires { Set B.Book book.now (moment T.BranchTable table.old trail.old choices.now) classes.old }
-    ensures passed { Passes B.Book book.now (moment T.BranchTable table.old trail.old choices.now) (moment T.BranchTable table.new trail.new choices.now) result }
-    ensures fits { Fits B.Book book.now (moment T.BranchTable table.new trail.new choices.now) classes.new }
+    ensures { Passes B.Book book.now (moment T.BranchTable table.old trail.old choices.now) (moment T.BranchTable table.new trail.new choices.now) classes.new result }
 {
     if !hints.swept {
         hints.swept = true;
         return sweep(book, table, trail, choices, classes);
     }
     let from = hints.pursued;
-    let pass = pursue(book, table, trail, choices, classes, from);
+    let moved = pursue(book, table, trail, choices, classes, from)?;
     hints.pursued = trail.height();
-    match pass {
-        Pass::Moved => Pass::Moved,
-        Pass::Rest => spread(book, table, trail, choices, classes, hints),
-        Pass::Hopeless => Pass::Hopeless,
+    if moved {
+        return Ok(true);
     }
+    spread(book, table, trail, choices, classes, hints)
 }

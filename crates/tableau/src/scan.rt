@@ -1,13 +1,14 @@
 // Looks at the instances of a clause on a branch.
 ghost use Rattle.std.specs.Prelude.{◌≡◌, ℕ, ◌<◌, ◌≤◌, [], length, slice_index_or};
+ghost use Rattle.syntax.specs.declared.types.Mark.TheVariants.{Open};
 ghost use Rattle.syntax.specs.Numbers.{atoms};
 ghost use Rattle.syntax.specs.Lawful.{LawfulLiteral};
 ghost use Rattle.semantics.specs.Meaning.{name_at, ground_of};
 ghost use Rattle.tableau.specs.Signs.{signed_atom_of, instance};
 ghost use Rattle.tableau.specs.Instances.{names_of, Below};
-ghost use Rattle.tableau.specs.Scans.{Looked, Evaluated, with_open};
+ghost use Rattle.tableau.specs.Scans.{sign_of, Evaluated, with_open};
 
-use crate::types::{FourNames, Look, Status};
+use crate::types::{FourNames, Status};
 use books::book::Book;
 use syntax::counts::Counts;
 use syntax::numbers::atom_number;
@@ -57,16 +58,14 @@ fn signed_atom(counts: Counts, names: FourNames, l: Literal) -> SignedAtom
     }
 }
 
-// How a signed atom stands on the branch.
-fn look<T: BranchTable>(table: &T, l: SignedAtom) -> Look
-    requires { l.atom < length (T.BranchTable.marks table.now) }
-    ensures { Looked (T.BranchTable.marks table.now) l result }
+// The sign with which an atom stands on the branch.
+pub(crate) fn sign_at<T: BranchTable>(table: &T, atom: usize) -> Option<bool>
+    ensures { result ≡ sign_of (slice_index_or (T.marks table.now) atom Open) }
 {
-    match table.ask(l.atom as usize) {
-        Ok(Mark::Yes) => if l.sign { Look::Stands } else { Look::Denied },
-        Ok(Mark::No) => if l.sign { Look::Denied } else { Look::Stands },
-        Ok(Mark::Open) => Look::Untold,
-        Err(_refusal) => Look::Untold,
+    match table.ask(atom) {
+        Ok(Mark::Yes) => Some(true),
+        Ok(Mark::No) => Some(false),
+        Ok(Mark::Open) | Err(_) => None,
     }
 }
 
@@ -99,10 +98,12 @@ pub(crate) fn evaluate<B: Book, T: BranchTable>(
     let mut j = 0;
     while let Some(l) = book.literal(i, j) {
         let atom = signed_atom(counts, names, l);
-        match look(table, atom) {
-            Look::Stands => return Status::Fulfilled,
-            Look::Denied => {}
-            Look::Untold => status = opens(status, atom),
+        let sign = sign_at(table, atom.atom as usize);
+        if sign == Some(atom.sign) {
+            return Status::Fulfilled;
+        }
+        if sign.is_none() {
+            status = opens(status, atom);
         }
         j += 1;
     }

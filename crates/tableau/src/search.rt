@@ -1,21 +1,21 @@
 // The search: turn after turn, until every instance is fulfilled or no choice is left.
-ghost use Rattle.std.specs.Prelude.{◌≡◌, ◌<◌, true};
+ghost use Rattle.std.specs.Prelude.{◌<◌};
 ghost use Rattle.syntax.specs.Numbers.{atoms};
 ghost use Rattle.tableau.specs.Signs.{OpenIn};
-ghost use Rattle.tableau.specs.Views.{moment, Searching, Set, Fits, Hopeless, Tries, Turns, FitsWhen, Decides};
+ghost use Rattle.tableau.specs.Views.{moment, Searching, Set, NoHope, Tries, Turns, Retreats, Decides};
 
 use crate::clash::{refresh, renew};
 use crate::moves::{choose, flip};
 use crate::pursue::propagate;
 use crate::survey::survey;
-use crate::types::{Hints, Outcome, Pass, Survey};
+use crate::types::{Hints, Hopeless};
 use books::book::Book;
-use syntax::types::SignedAtom;
 use classes::table::ClassTable;
+use syntax::types::SignedAtom;
 use tables::stack::{Choice, Stack};
 use tables::table::BranchTable;
 
-// Chooses a signed atom: whether there is hope.
+// Chooses a signed atom.
 fn branch<B: Book, T: BranchTable>(
     book: &B,
     table: &mut T,
@@ -23,48 +23,37 @@ fn branch<B: Book, T: BranchTable>(
     choices: &mut Stack<'_, Choice>,
     classes: &mut ClassTable,
     l: SignedAtom,
-) -> bool
+) -> Result<(), Hopeless>
     requires ready { Set B.Book book.now (moment T.BranchTable table.old trail.old choices.old) classes.old }
-    requires below { l.atom < atoms (B.Book.counts book.now) }
-    requires lies { OpenIn (T.BranchTable.marks table.old) l }
-    ensures tried { Tries B.Book book.now (moment T.BranchTable table.old trail.old choices.old) (moment T.BranchTable table.new trail.new choices.new) result }
-    ensures fits { Fits B.Book book.now (moment T.BranchTable table.new trail.new choices.new) classes.new }
+    requires below { l.atom < atoms (B.counts book.now) }
+    requires lies { OpenIn (T.marks table.old) l }
+    ensures { Tries B.Book book.now (moment T.BranchTable table.old trail.old choices.old) (moment T.BranchTable table.new trail.new choices.new) classes.new result }
 {
     choose(table, trail, choices, l);
     if refresh(book, table, classes, l) {
-        return false;
+        return Err(Hopeless);
     }
-    true
+    Ok(())
 }
 
-// Takes choices back until one's opposite does not clash.
+// Takes choices back until one's opposite does not clash: whether there was such a choice.
 fn backtrack<B: Book, T: BranchTable>(
     book: &B,
     table: &mut T,
     trail: &mut Stack<'_, u16>,
     choices: &mut Stack<'_, Choice>,
     classes: &mut ClassTable,
-) -> Outcome
+) -> bool
     requires state { Searching B.Book book.now (moment T.BranchTable table.old trail.old choices.old) }
-    requires hopeless { Hopeless B.Book book.now (moment T.BranchTable table.old trail.old choices.old) }
-    ensures turned { Turns B.Book book.now (moment T.BranchTable table.old trail.old choices.old) (moment T.BranchTable table.new trail.new choices.new) result }
-    ensures fits { FitsWhen B.Book book.now (moment T.BranchTable table.new trail.new choices.new) classes.new result }
+    requires lost { NoHope B.Book book.now (moment T.BranchTable table.old trail.old choices.old) }
+    ensures { Retreats B.Book book.now (moment T.BranchTable table.old trail.old choices.old) (moment T.BranchTable table.new trail.new choices.new) classes.new result }
 {
-    while let Some(_l) = flip(book, table, trail, choices) {
+    while flip(book, table, trail, choices) {
         if !renew(book, table, classes) {
-            return Outcome::Moved;
+            return true;
         }
     }
-    Outcome::Failed
-}
-
-// The height below the top.
-fn below_top(height: usize) -> usize {
-    if height > 0 { height - 1 } else { 0 }
-}
-
-fn lower(a: usize, b: usize) -> usize {
-    if a < b { a } else { b }
+    false
 }
 
 // The same. The trail is then to be followed from its top, and each clause to be looked at.
@@ -75,48 +64,21 @@ fn retreat<B: Book, T: BranchTable>(
     choices: &mut Stack<'_, Choice>,
     classes: &mut ClassTable,
     hints: &mut Hints,
-) -> Outcome
+) -> bool
     requires state { Searching B.Book book.now (moment T.BranchTable table.old trail.old choices.old) }
-    requires hopeless { Hopeless B.Book book.now (moment T.BranchTable table.old trail.old choices.old) }
-    ensures turned { Turns B.Book book.now (moment T.BranchTable table.old trail.old choices.old) (moment T.BranchTable table.new trail.new choices.new) result }
-    ensures fits { FitsWhen B.Book book.now (moment T.BranchTable table.new trail.new choices.new) classes.new result }
+    requires lost { NoHope B.Book book.now (moment T.BranchTable table.old trail.old choices.old) }
+    ensures { Retreats B.Book book.now (moment T.BranchTable table.old trail.old choices.old) (moment T.BranchTable table.new trail.new choices.new) classes.new result }
 {
-    let outcome = backtrack(book, table, trail, choices, classes);
-    let top = below_top(trail.height());
+    let left = backtrack(book, table, trail, choices, classes);
+    let top = trail.height().saturating_sub(1);
     hints.pursued = top;
-    hints.spread = lower(hints.spread, top);
+    hints.spread = hints.spread.min(top);
     hints.surveyed = 0;
     hints.instance = 0;
-    outcome
+    left
 }
 
-// Makes a choice where nothing more is forced, unless every instance is fulfilled.
-fn decide_on<B: Book, T: BranchTable>(
-    book: &B,
-    table: &mut T,
-    trail: &mut Stack<'_, u16>,
-    choices: &mut Stack<'_, Choice>,
-    classes: &mut ClassTable,
-    hints: &mut Hints,
-) -> Outcome
-    requires { Set B.Book book.now (moment T.BranchTable table.old trail.old choices.old) classes.old }
-    ensures turned { Turns B.Book book.now (moment T.BranchTable table.old trail.old choices.old) (moment T.BranchTable table.new trail.new choices.new) result }
-    ensures fits { FitsWhen B.Book book.now (moment T.BranchTable table.new trail.new choices.new) classes.new result }
-{
-    match survey(book, table, hints) {
-        Survey::Fulfilled => Outcome::Done,
-        Survey::Broken => retreat(book, table, trail, choices, classes, hints),
-        Survey::Split(l) => {
-            if branch(book, table, trail, choices, classes, l) {
-                Outcome::Moved
-            } else {
-                retreat(book, table, trail, choices, classes, hints)
-            }
-        }
-    }
-}
-
-// One turn: tells what is forced, or takes a choice back, or makes one.
+// One turn: tells what is forced; where nothing is, makes a choice, unless every instance is fulfilled.
 fn turn<B: Book, T: BranchTable>(
     book: &B,
     table: &mut T,
@@ -124,15 +86,19 @@ fn turn<B: Book, T: BranchTable>(
     choices: &mut Stack<'_, Choice>,
     classes: &mut ClassTable,
     hints: &mut Hints,
-) -> Outcome
+) -> Result<bool, Hopeless>
     requires { Set B.Book book.now (moment T.BranchTable table.old trail.old choices.old) classes.old }
-    ensures turned { Turns B.Book book.now (moment T.BranchTable table.old trail.old choices.old) (moment T.BranchTable table.new trail.new choices.new) result }
-    ensures fits { FitsWhen B.Book book.now (moment T.BranchTable table.new trail.new choices.new) classes.new result }
+    ensures { Turns B.Book book.now (moment T.BranchTable table.old trail.old choices.old) (moment T.BranchTable table.new trail.new choices.new) classes.new result }
 {
-    match propagate(book, table, trail, choices, classes, hints) {
-        Pass::Moved => Outcome::Moved,
-        Pass::Rest => decide_on(book, table, trail, choices, classes, hints),
-        Pass::Hopeless => retreat(book, table, trail, choices, classes, hints),
+    if propagate(book, table, trail, choices, classes, hints)? {
+        return Ok(true);
+    }
+    match survey(book, table, hints)? {
+        Some(l) => {
+            branch(book, table, trail, choices, classes, l)?;
+            Ok(true)
+        }
+        None => Ok(false),
     }
 }
 
@@ -145,22 +111,16 @@ pub(crate) fn decide<B: Book, T: BranchTable>(
     classes: &mut ClassTable,
 ) -> bool
     requires { Set B.Book book.now (moment T.BranchTable table.old trail.old choices.old) classes.old }
-    ensures decided { Decides B.Book book.now (moment T.BranchTable table.old trail.old choices.old) (moment T.BranchTable table.new trail.new choices.new) result }
-    ensures fits { result ≡ true → Fits B.Book book.now (moment T.BranchTable table.new trail.new choices.new) classes.new }
+    ensures { Decides B.Book book.now (moment T.BranchTable table.old trail.old choices.old) (moment T.BranchTable table.new trail.new choices.new) classes.new result }
 {
-    let mut hints = Hints {
-        swept: false,
-        pursued: 0,
-        surveyed: 0,
-        instance: 0,
-        spread: 0,
-        classes: 0,
-    };
+    let mut hints = Hints::default();
     loop {
         match turn(book, table, trail, choices, classes, &mut hints) {
-            Outcome::Done => return true,
-            Outcome::Failed => return false,
-            Outcome::Moved => {}
+            Ok(true) => {}
+            Ok(false) => return true,
+            Err(Hopeless) => if !retreat(book, table, trail, choices, classes, &mut hints) {
+                return false;
+            },
         }
     }
 }

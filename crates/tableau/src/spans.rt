@@ -1,5 +1,5 @@
 // What a ground atom binds the variables of an atom to, and the assignments left.
-ghost use Rattle.std.specs.Prelude.{◌<◌, ◌≤◌};
+ghost use Rattle.std.specs.Prelude.{◌<◌};
 ghost use Rattle.tableau.specs.Instances.{Below, size as size_by};
 ghost use Rattle.tableau.specs.Spans.{InSpan, InSpans, SpanIf, SpansIf, Runs};
 
@@ -85,17 +85,6 @@ pub(crate) fn bind(counts: Counts, atom: Atom, g: Ground) -> Option<Spans>
     }
 }
 
-fn lower(range: usize, count: u8) -> usize
-    requires { (1 ≤ range) × (1 ≤ count) }
-    ensures { (1 ≤ result) × ((result ≤ range) × (result ≤ count)) }
-{
-    if range < count as usize {
-        range
-    } else {
-        count as usize
-    }
-}
-
 // How many names each variable of clause i still runs through.
 pub(crate) fn ranges_in<B: Book>(book: &B, i: usize, spans: Spans) -> Ranges
     requires { InSpans (B.Book.counts book.now) spans }
@@ -103,10 +92,10 @@ pub(crate) fn ranges_in<B: Book>(book: &B, i: usize, spans: Spans) -> Ranges
 {
     let all = ranges(book, i);
     Ranges {
-        x: lower(all.x, spans.x.count),
-        y: lower(all.y, spans.y.count),
-        z: lower(all.z, spans.z.count),
-        w: lower(all.w, spans.w.count),
+        x: all.x.min(usize::from(spans.x.count)),
+        y: all.y.min(usize::from(spans.y.count)),
+        z: all.z.min(usize::from(spans.z.count)),
+        w: all.w.min(usize::from(spans.w.count)),
     }
 }
 

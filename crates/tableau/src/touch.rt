@@ -1,12 +1,12 @@
 // Tells what a mark forces in the instances that it denies a literal of.
 ghost use Rattle.std.specs.Prelude.{◌<◌, length};
 ghost use Rattle.tableau.specs.Spans.{InSpans};
-ghost use Rattle.tableau.specs.Views.{moment, Set, Fits, Passes};
+ghost use Rattle.tableau.specs.Views.{moment, Set, Passes};
 
 use crate::ranges::size;
 use crate::spans::{bind, nth_in, ranges_in};
-use crate::sweep::{pass_of, press};
-use crate::types::{Pass, Spans};
+use crate::sweep::press;
+use crate::types::{Hopeless, Spans};
 use books::book::Book;
 use classes::table::ClassTable;
 use syntax::types::{Ground, Literal};
@@ -22,18 +22,17 @@ fn touch_spans<B: Book, T: BranchTable>(
     classes: &mut ClassTable,
     i: usize,
     spans: Spans,
-) -> Pass
+) -> Result<bool, Hopeless>
     requires ready { Set B.Book book.now (moment T.BranchTable table.old trail.old choices.now) classes.old }
     requires inside { i < length (B.Book.clauses book.now) }
     requires spans { InSpans (B.Book.counts book.now) spans }
-    ensures passed { Passes B.Book book.now (moment T.BranchTable table.old trail.old choices.now) (moment T.BranchTable table.new trail.new choices.now) result }
-    ensures fits { Fits B.Book book.now (moment T.BranchTable table.new trail.new choices.now) classes.new }
+    ensures { Passes B.Book book.now (moment T.BranchTable table.old trail.old choices.now) (moment T.BranchTable table.new trail.new choices.now) classes.new result }
 {
     let counts = book.counts();
     let ranges = ranges_in(book, i, spans);
     let mut moved = false;
     for k in 0..size(ranges) {
-        match press(
+        moved |= press(
             book,
             table,
             trail,
@@ -41,13 +40,9 @@ fn touch_spans<B: Book, T: BranchTable>(
             classes,
             i,
             nth_in(counts, spans, ranges, k),
-        ) {
-            Pass::Moved => moved = true,
-            Pass::Rest => {}
-            Pass::Hopeless => return Pass::Hopeless,
-        }
+        )?;
     }
-    pass_of(moved)
+    Ok(moved)
 }
 
 // In the instances of clause i where the mark of the ground atom denies the literal l.
@@ -61,18 +56,17 @@ fn touch_literal<B: Book, T: BranchTable>(
     l: Literal,
     g: Ground,
     sign: bool,
-) -> Pass
+) -> Result<bool, Hopeless>
     requires ready { Set B.Book book.now (moment T.BranchTable table.old trail.old choices.now) classes.old }
     requires inside { i < length (B.Book.clauses book.now) }
-    ensures passed { Passes B.Book book.now (moment T.BranchTable table.old trail.old choices.now) (moment T.BranchTable table.new trail.new choices.now) result }
-    ensures fits { Fits B.Book book.now (moment T.BranchTable table.new trail.new choices.now) classes.new }
+    ensures { Passes B.Book book.now (moment T.BranchTable table.old trail.old choices.now) (moment T.BranchTable table.new trail.new choices.now) classes.new result }
 {
     if l.sign == sign {
-        return Pass::Rest;
+        return Ok(false);
     }
     match bind(book.counts(), l.atom, g) {
         Some(spans) => touch_spans(book, table, trail, choices, classes, i, spans),
-        None => Pass::Rest,
+        None => Ok(false),
     }
 }
 
@@ -86,22 +80,17 @@ fn touch_clause<B: Book, T: BranchTable>(
     i: usize,
     g: Ground,
     sign: bool,
-) -> Pass
+) -> Result<bool, Hopeless>
     requires { Set B.Book book.now (moment T.BranchTable table.old trail.old choices.now) classes.old }
-    ensures passed { Passes B.Book book.now (moment T.BranchTable table.old trail.old choices.now) (moment T.BranchTable table.new trail.new choices.now) result }
-    ensures fits { Fits B.Book book.now (moment T.BranchTable table.new trail.new choices.now) classes.new }
+    ensures { Passes B.Book book.now (moment T.BranchTable table.old trail.old choices.now) (moment T.BranchTable table.new trail.new choices.now) classes.new result }
 {
     let mut moved = false;
     let mut j = 0;
     while let Some(l) = book.literal(i, j) {
-        match touch_literal(book, table, trail, choices, classes, i, l, g, sign) {
-            Pass::Moved => moved = true,
-            Pass::Rest => {}
-            Pass::Hopeless => return Pass::Hopeless,
-        }
+        moved |= touch_literal(book, table, trail, choices, classes, i, l, g, sign)?;
         j += 1;
     }
-    pass_of(moved)
+    Ok(moved)
 }
 
 // In the instances of every clause.
@@ -113,18 +102,13 @@ pub(crate) fn touch<B: Book, T: BranchTable>(
     classes: &mut ClassTable,
     g: Ground,
     sign: bool,
-) -> Pass
+) -> Result<bool, Hopeless>
     requires { Set B.Book book.now (moment T.BranchTable table.old trail.old choices.now) classes.old }
-    ensures passed { Passes B.Book book.now (moment T.BranchTable table.old trail.old choices.now) (moment T.BranchTable table.new trail.new choices.now) result }
-    ensures fits { Fits B.Book book.now (moment T.BranchTable table.new trail.new choices.now) classes.new }
+    ensures { Passes B.Book book.now (moment T.BranchTable table.old trail.old choices.now) (moment T.BranchTable table.new trail.new choices.now) classes.new result }
 {
     let mut moved = false;
     for i in 0..book.len() {
-        match touch_clause(book, table, trail, choices, classes, i, g, sign) {
-            Pass::Moved => moved = true,
-            Pass::Rest => {}
-            Pass::Hopeless => return Pass::Hopeless,
-        }
+        moved |= touch_clause(book, table, trail, choices, classes, i, g, sign)?;
     }
-    pass_of(moved)
+    Ok(moved)
 }

@@ -1,6 +1,10 @@
 // What the search speaks of. No clause stands in this file, so that specs/ can name the types.
 use syntax::types::SignedAtom;
 
+// No model agrees with the branch.
+#[derive(Clone, Copy)]
+pub(crate) struct Hopeless;
+
 // The names put for the variables 0 to 3.
 #[derive(Clone, Copy)]
 pub(crate) struct FourNames {
@@ -19,14 +23,6 @@ pub(crate) struct Ranges {
     pub(crate) w: usize,
 }
 
-// How a signed atom stands on a branch: so, with the other sign, or not at all.
-#[derive(Clone, Copy)]
-pub(crate) enum Look {
-    Stands,
-    Denied,
-    Untold,
-}
-
 // How an instance stands on a branch: a literal stands; all are denied; all but one, which is open;
 // more than one is open.
 #[derive(Clone, Copy)]
@@ -35,31 +31,6 @@ pub(crate) enum Status {
     Broken,
     Forced(SignedAtom),
     Loose(SignedAtom),
-}
-
-// What a sweep over the instances came to: something told; nothing; no model agrees with the branch.
-#[derive(Clone, Copy)]
-pub(crate) enum Pass {
-    Moved,
-    Rest,
-    Hopeless,
-}
-
-// What stands between the branch and fulfilment: nothing; an instance with all literals denied; an open literal of an
-// instance where none stands.
-#[derive(Clone, Copy)]
-pub(crate) enum Survey {
-    Fulfilled,
-    Broken,
-    Split(SignedAtom),
-}
-
-// What a turn of the search came to: a branch that fulfils every instance; no branch left; neither yet.
-#[derive(Clone, Copy)]
-pub(crate) enum Outcome {
-    Done,
-    Failed,
-    Moved,
 }
 
 // The names that a variable may stand for: `count` of them, from `first` on.
@@ -79,7 +50,7 @@ pub(crate) struct Spans {
 }
 
 // Where the search goes on. Nothing rests on it: whatever it says, the search is right.
-#[derive(Clone, Copy)]
+#[derive(Clone, Copy, Default)]
 pub(crate) struct Hints {
     // whether what is forced where nothing stands was told
     pub(crate) swept: bool,

@@ -1,17 +1,17 @@
 // Tells atoms of names that are linked with those of atoms that stand.
 ghost use Rattle.std.specs.Prelude.{◌≡◌, true};
 ghost use Rattle.classes.specs.Leaders.{leader_of};
-ghost use Rattle.tableau.specs.Variants.{renamed as renamed_by, OneLed, SignOf, OpenAtom};
-ghost use Rattle.tableau.specs.Views.{moment, Set, Fits, Passes};
+ghost use Rattle.tableau.specs.Variants.{renamed as renamed_by, OneLed};
+ghost use Rattle.tableau.specs.Views.{moment, Set, Passes};
 
+use crate::scan::sign_at;
 use crate::spans::bind;
-use crate::sweep::{enforce, pass_of};
-use crate::types::{Hints, Pass};
+use crate::sweep::enforce;
+use crate::types::{Hints, Hopeless};
 use books::book::Book;
 use classes::table::ClassTable;
-use syntax::counts::Counts;
 use syntax::numbers::{atom_at, atom_number};
-use syntax::types::{Ground, Mark, SignedAtom};
+use syntax::types::{Ground, SignedAtom};
 use tables::stack::{Choice, Stack};
 use tables::table::BranchTable;
 
@@ -39,36 +39,6 @@ fn is_led(classes: &ClassTable, g: Ground, x: u8, y: u8) -> bool
     }
 }
 
-// The sign with which an atom stands.
-fn sign_of<T: BranchTable>(counts: Counts, table: &T, g: Ground) -> Option<bool>
-    ensures { SignOf counts (T.BranchTable.marks table.now) g result }
-{
-    match atom_number(counts, g) {
-        Some(k) => match table.ask(k) {
-            Ok(Mark::Yes) => Some(true),
-            Ok(Mark::No) => Some(false),
-            Ok(Mark::Open) => None,
-            Err(_refusal) => None,
-        },
-        None => None,
-    }
-}
-
-// The number of an open atom.
-fn open_atom<T: BranchTable>(counts: Counts, table: &T, g: Ground) -> Option<u16>
-    ensures { OpenAtom counts (T.BranchTable.marks table.now) g result }
-{
-    match atom_number(counts, g) {
-        Some(k) => match table.ask(k) {
-            Ok(Mark::Open) => Some(k as u16),
-            Ok(Mark::Yes) => None,
-            Ok(Mark::No) => None,
-            Err(_refusal) => None,
-        },
-        None => None,
-    }
-}
-
 // Whether the atom occurs in an instance of clause i.
 fn occurs_in<B: Book>(book: &B, i: usize, g: Ground) -> bool {
     let counts = book.counts();
@@ -84,12 +54,7 @@ fn occurs_in<B: Book>(book: &B, i: usize, g: Ground) -> bool {
 
 // Whether it occurs in some instance.
 fn occurs<B: Book>(book: &B, g: Ground) -> bool {
-    for i in 0..book.len() {
-        if occurs_in(book, i, g) {
-            return true;
-        }
-    }
-    false
+    (0..book.len()).any(|i| occurs_in(book, i, g))
 }
 
 // Tells the atom with other names as it stands, if those have the leaders of its own.
@@ -102,43 +67,41 @@ fn tell_renamed<B: Book, T: BranchTable>(
     g: Ground,
     x: u8,
     y: u8,
-) -> Pass
+) -> Result<bool, Hopeless>
     requires { Set B.Book book.now (moment T.BranchTable table.old trail.old choices.now) classes.old }
-    ensures passed { Passes B.Book book.now (moment T.BranchTable table.old trail.old choices.now) (moment T.BranchTable table.new trail.new choices.now) result }
-    ensures fits { Fits B.Book book.now (moment T.BranchTable table.new trail.new choices.now) classes.new }
+    ensures { Passes B.Book book.now (moment T.BranchTable table.old trail.old choices.now) (moment T.BranchTable table.new trail.new choices.now) classes.new result }
 {
     if !is_led(classes, g, x, y) {
-        return Pass::Rest;
+        return Ok(false);
     }
     let counts = book.counts();
     let other = renamed(g, x, y);
-    let Some(atom) = open_atom(counts, table, other) else {
-        return Pass::Rest;
+    let Some(atom) = atom_number(counts, other) else {
+        return Ok(false);
     };
-    let Some(sign) = sign_of(counts, table, g) else {
-        return Pass::Rest;
+    if sign_at(table, atom).is_some() {
+        return Ok(false);
+    }
+    let Some(from) = atom_number(counts, g) else {
+        return Ok(false);
+    };
+    let Some(sign) = sign_at(table, from) else {
+        return Ok(false);
     };
     if !occurs(book, other) {
-        return Pass::Rest;
+        return Ok(false);
     }
-    enforce(
-        book,
-        table,
-        trail,
-        choices,
-        classes,
-        SignedAtom { atom, sign },
-    )
+    let l = SignedAtom {
+        atom: atom as u16,
+        sign,
+    };
+    enforce(book, table, trail, choices, classes, l)?;
+    Ok(true)
 }
 
 // Whether the name's class has another name.
 fn is_linked(classes: &ClassTable, names: u8, a: u8) -> bool {
-    for x in 0..names {
-        if x != a && classes.leader(x) == classes.leader(a) {
-            return true;
-        }
-    }
-    false
+    (0..names).any(|x| x != a && classes.leader(x) == classes.leader(a))
 }
 
 // Whether that is so of a name of the atom.
@@ -158,22 +121,21 @@ fn tell_linked<B: Book, T: BranchTable>(
     choices: &Stack<'_, Choice>,
     classes: &mut ClassTable,
     atom: u16,
-) -> Pass
+) -> Result<bool, Hopeless>
     requires { Set B.Book book.now (moment T.BranchTable table.old trail.old choices.now) classes.old }
-    ensures passed { Passes B.Book book.now (moment T.BranchTable table.old trail.old choices.now) (moment T.BranchTable table.new trail.new choices.now) result }
-    ensures fits { Fits B.Book book.now (moment T.BranchTable table.new trail.new choices.now) classes.new }
+    ensures { Passes B.Book book.now (moment T.BranchTable table.old trail.old choices.now) (moment T.BranchTable table.new trail.new choices.now) classes.new result }
 {
     let counts = book.counts();
     let names = counts.names();
     let Some(g) = atom_at(counts, atom as usize) else {
-        return Pass::Rest;
+        return Ok(false);
     };
     if !has_linked(classes, names, g) {
-        return Pass::Rest;
+        return Ok(false);
     }
     let mut moved = false;
     for k in 0..names as usize * names as usize {
-        match tell_renamed(
+        moved |= tell_renamed(
             book,
             table,
             trail,
@@ -182,13 +144,9 @@ fn tell_linked<B: Book, T: BranchTable>(
             g,
             (k / names as usize) as u8,
             (k % names as usize) as u8,
-        ) {
-            Pass::Moved => moved = true,
-            Pass::Rest => {}
-            Pass::Hopeless => return Pass::Hopeless,
-        }
+        )?;
     }
-    pass_of(moved)
+    Ok(moved)
 }
 
 // For the atoms on the trail from a height on.
@@ -199,33 +157,22 @@ fn spread_from<B: Book, T: BranchTable>(
     choices: &Stack<'_, Choice>,
     classes: &mut ClassTable,
     from: usize,
-) -> Pass
+) -> Result<bool, Hopeless>
     requires { Set B.Book book.now (moment T.BranchTable table.old trail.old choices.now) classes.old }
-    ensures passed { Passes B.Book book.now (moment T.BranchTable table.old trail.old choices.now) (moment T.BranchTable table.new trail.new choices.now) result }
-    ensures fits { Fits B.Book book.now (moment T.BranchTable table.new trail.new choices.now) classes.new }
+    ensures { Passes B.Book book.now (moment T.BranchTable table.old trail.old choices.now) (moment T.BranchTable table.new trail.new choices.now) classes.new result }
 {
     let mut moved = false;
     let mut at = from;
     while let Some(atom) = trail.at(at) {
-        match tell_linked(book, table, trail, choices, classes, atom) {
-            Pass::Moved => moved = true,
-            Pass::Rest => {}
-            Pass::Hopeless => return Pass::Hopeless,
-        }
+        moved |= tell_linked(book, table, trail, choices, classes, atom)?;
         at += 1;
     }
-    pass_of(moved)
+    Ok(moved)
 }
 
 // How many classes there are.
 fn class_count(classes: &ClassTable, names: u8) -> usize {
-    let mut count = 0usize;
-    for a in 0..names {
-        if classes.leader(a) == a {
-            count += 1;
-        }
-    }
-    count
+    (0..names).filter(|a| classes.leader(*a) == *a).count()
 }
 
 // Tells atoms of linked names, from where the hints say; after classes were joined, from the start.
@@ -236,10 +183,9 @@ pub(crate) fn spread<B: Book, T: BranchTable>(
     choices: &Stack<'_, Choice>,
     classes: &mut ClassTable,
     hints: &mut Hints,
-) -> Pass
+) -> Result<bool, Hopeless>
     requires { Set B.Book book.now (moment T.BranchTable table.old trail.old choices.now) classes.old }
-    ensures passed { Passes B.Book book.now (moment T.BranchTable table.old trail.old choices.now) (moment T.BranchTable table.new trail.new choices.now) result }
-    ensures fits { Fits B.Book book.now (moment T.BranchTable table.new trail.new choices.now) classes.new }
+    ensures { Passes B.Book book.now (moment T.BranchTable table.old trail.old choices.now) (moment T.BranchTable table.new trail.new choices.now) classes.new result }
 {
     let names = book.counts().names();
     let count = class_count(classes, names);
@@ -250,7 +196,7 @@ pub(crate) fn spread<B: Book, T: BranchTable>(
     };
     hints.classes = count;
     if count >= names as usize {
-        return Pass::Rest;
+        return Ok(false);
     }
     let pass = spread_from(book, table, trail, choices, classes, from);
     hints.spread = trail.height();

@@ -40,9 +40,9 @@ returns g c =
     let m = moment t c.args.table.now c.new-told.result c.new-chosen.result in
     let m' = moment t c.decide.new.table c.decide.new.trail c.decide.new.choices in
     let e = c.decide.ensures in
-    let f = decided_frame n cs m m' c.decide.result e.decided in
+    let f = decided_frame n cs m m' (leader_of c.decide.new.classes) c.decide.result e in
     record {
-      searched = searched n cs m m' (leader_of c.decide.new.classes) c.decide.result e.decided e.fits;
+      searched = searched n cs m m' (leader_of c.decide.new.classes) c.decide.result e;
       reach = ap (λ (x : Frame). x.reach) f;
       room = ap (λ (x : Frame). x.room) f;
       loan = ap (λ (x : Frame). x.loan) f;

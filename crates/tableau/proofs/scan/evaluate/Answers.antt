@@ -1,4 +1,6 @@
-use Rattle.std.proofs.Common.{◌≡◌, ◌+◌, List, [], get_or, take, sym, ap, ◌∙◌, subst, arith}
+use Rattle.std.proofs.Common.{◌≡◌, ◌+◌, true, false, List, Some, [], get_or, take, not, sym, ap, ◌∙◌, subst, arith}
+use mathlib.Core.Bool.{beq}
+use Rattle.std.specs.Option.{option_eq, is_some}
 use Rattle.syntax.specs.declared.counts.Counts.{Counts}
 use Rattle.syntax.specs.Lawful.{LawfulLiteral}
 use Rattle.books.proofs.Readings.{literal_of_list, literal_lawful, clause_lawful}
@@ -7,9 +9,9 @@ use Rattle.tableau.specs.declared.types.Status.{Status}
 use Rattle.tableau.specs.Signs.{signed_atom_of, instance}
 use Rattle.tableau.specs.Instances.{names_of, Below}
 use Rattle.tableau.specs.Scans.{Evaluated}
-use Rattle.tableau.proofs.Looks.{at_step, at_end, has_here, more_denied, more_open}
+use Rattle.tableau.proofs.Looks.{at_step, at_end, has_here, more_denied, more_open, stands_by, denied_by, open_by}
 use Rattle.tableau.proofs.scan.evaluate.Goals as goal
-use Rattle.tableau.proofs.scan.evaluate.Goals.{in-Denied, in-Untold}
+use Rattle.tableau.proofs.scan.evaluate.Goals.{then-is_none, else-is_none}
 
 pub signed_atom-atom-requires : goal.signed_atom-atom-requires
 signed_atom-atom-requires g c =
@@ -21,8 +23,8 @@ signed_atom-atom-requires g c =
       below = subst (λ (k : Counts). Below k c.args.names) e c.requires.below;
     }
 
-pub returns-in-Stands : goal.returns-in-Stands
-returns-in-Stands g c =
+pub returns-then-eq : goal.returns-then-eq
+returns-then-eq g c =
     let b = g.B.Book in
     let book = c.args.book.now in
     let σ = names_of c.args.names in
@@ -30,7 +32,7 @@ returns-in-Stands g c =
     let is : x ≡ signed_atom_of (b.counts book) σ c.in-Some.l = c.signed_atom-atom.ensures.is ∙ ap (λ k. signed_atom_of k σ c.in-Some.l) c.counts-counts.ensures in
     let s = at_step (b.counts book) σ (b.clauses book) c.args.i c.loop-l.j c.in-Some.l x c.in-Some.ensures is in
     let ins = instance (b.counts book) σ (get_or (b.clauses book) c.args.i []) in
-    (x, has_here (g.T.BranchTable.marks c.args.table.now) ins c.loop-l.j s.0 x s.1, c.in-Stands.ensures)
+    (x, has_here (g.T.BranchTable.marks c.args.table.now) ins c.loop-l.j s.0 x s.1, stands_by _ x.sign (subst (λ o. true ≡ option_eq beq o (Some x.sign)) c.sign_at-sign.ensures c.if-eq.ensures))
 
 pub overflow_add-j : goal.overflow_add-j
 overflow_add-j g c =
@@ -58,9 +60,13 @@ loop-l-preserved g c =
     let s = at_step (b.counts book) σ (b.clauses book) c.args.i j c.in-Some.l x c.in-Some.ensures is in
     let ins = instance (b.counts book) σ (get_or (b.clauses book) c.args.i []) in
     let P : Status → Type 0 = λ v. Evaluated ms ins (take (j + 1) ins) v in
-    elim c.match-look.branch [
-      | in-Denied w ↦ subst P (sym w.status-is) (more_denied ms ins j s.0 x s.1 c.loop-l.status c.loop-l.invariant w.in-Denied.ensures)
-      | in-Untold w ↦ subst P (sym (w.status-is ∙ w.opens-status.ensures)) (more_open ms ins j s.0 x s.1 c.loop-l.status c.loop-l.invariant w.in-Untold.ensures)
+    let o = c.sign_at-sign.ensures in
+    let e = subst (λ k. false ≡ option_eq beq k (Some x.sign)) o c.if-eq.ensures in
+    elim c.if-is_none.branch [
+      | then-is_none w ↦
+          subst P (sym (w.status-is ∙ w.opens-status.ensures)) (more_open ms ins j s.0 x s.1 c.loop-l.status c.loop-l.invariant (open_by _ (subst (λ k. is_some k ≡ false) o (c.is_none.ensures ∙ ap not w.if-is_none.true))))
+      | else-is_none w ↦
+          subst P (sym w.status-is) (more_denied ms ins j s.0 x s.1 c.loop-l.status c.loop-l.invariant (denied_by _ x.sign e (subst (λ k. is_some k ≡ true) o (c.is_none.ensures ∙ ap not w.if-is_none.false))))
     ]
 
 pub returns : goal.returns

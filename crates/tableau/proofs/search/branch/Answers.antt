@@ -1,9 +1,9 @@
-use Rattle.std.proofs.Common.{refl, arith}
+use Rattle.std.proofs.Common.{refl}
 use mathlib.Core.Bool.{false≢true}
 use Rattle.classes.specs.Leaders.{leader_of}
 use Rattle.tableau.specs.Views.{moment}
-use Rattle.tableau.proofs.States.{puttable, choice_slot, height_fits, put_stands, put_length, reaches, chosen_step, chosen_lighter}
-use Rattle.tableau.proofs.Going.{fits_before, calm_before, clash_hopeless}
+use Rattle.tableau.proofs.States.{puttable, choice_slot, height_fits}
+use Rattle.tableau.proofs.Going.{fits_before, calm_before, clash_hopeless, lighter_steady, chosen_there}
 use Rattle.tableau.proofs.search.branch.Goals as goal
 
 pub choose-requires : goal.choose-requires
@@ -16,51 +16,33 @@ choose-requires g c =
       slot = choice_slot st l c.requires.below c.requires.lies;
     }
 
-pub refresh-requires : goal.refresh-requires
-refresh-requires g c =
-    let k = g.B.Book.counts c.args.book.now in
+pub refresh-requires-clause-fits : goal.refresh-requires-clause-fits
+refresh-requires-clause-fits g c =
     let t = g.T.BranchTable in
-    let l = c.args.l in
-    let ms = t.marks c.args.table.now in
-    let ms' = t.marks c.choose.new.table in
-    let e = c.choose.ensures.marks_are in
-    let lt = reaches c.requires.ready.state in
-    record {
-      below = c.requires.below;
-      inside = omega (arith, c.requires.below, lt, put_length l ms ms' e);
-      stands = put_stands l ms ms' e (omega (arith, c.requires.below, lt));
-      fits = fits_before k l ms ms' e c.requires.lies (leader_of c.args.classes.now) c.requires.ready.fits;
-      calm = calm_before k l ms ms' e c.requires.lies c.requires.ready.calm;
-    }
+    fits_before (g.B.Book.counts c.args.book.now) c.args.l (t.marks c.args.table.now) (t.marks c.choose.new.table) c.choose.ensures.marks_are c.requires.lies (leader_of c.args.classes.now) c.requires.ready.fits
+
+pub refresh-requires-clause-calm : goal.refresh-requires-clause-calm
+refresh-requires-clause-calm g c =
+    let t = g.T.BranchTable in
+    calm_before (g.B.Book.counts c.args.book.now) c.args.l (t.marks c.args.table.now) (t.marks c.choose.new.table) c.choose.ensures.marks_are c.requires.lies c.requires.ready.calm
 
 pub returns-then-refresh : goal.returns-then-refresh
 returns-then-refresh g c =
-    let b = g.B.Book in
-    let book = c.args.book.now in
-    let m = moment g.T.BranchTable c.choose.new.table c.choose.new.trail c.choose.new.choices in
-    let st = c.requires.ready.state in
-    let l = c.args.l in
-    let p = c.choose.ensures in
-    let e = c.if-refresh.ensures in
-    record {
-      tried = (
-        record { frame_is = p.frame_is; state = chosen_step st l c.requires.below c.requires.lies m p c.requires.ready.calm; falls = chosen_lighter st l c.requires.below c.requires.lies m p },
-        clash_hopeless (b.counts book) (b.clauses book) m.marks (e.clash.0 refl),
-      );
-      fits = e.fits;
-    }
+    let t = g.T.BranchTable in
+    let n = g.B.Book.counts c.args.book.now in
+    let cs = g.B.Book.clauses c.args.book.now in
+    let m = moment t c.args.table.now c.args.trail.now c.args.choices.now in
+    let m' = moment t c.choose.new.table c.choose.new.trail c.choose.new.choices in (
+      lighter_steady (chosen_there n cs (leader_of c.args.classes.now) c.args.l m m' c.requires.ready c.requires.below c.requires.lies c.choose.ensures),
+      clash_hopeless n cs m'.marks (c.if-refresh.ensures.clash.0 refl),
+    )
 
 pub returns : goal.returns
 returns g c =
-    let m = moment g.T.BranchTable c.choose.new.table c.choose.new.trail c.choose.new.choices in
-    let st = c.requires.ready.state in
-    let l = c.args.l in
-    let p = c.choose.ensures in
-    let e = c.if-refresh.ensures in
-    record {
-      tried = (
-        record { frame_is = p.frame_is; state = chosen_step st l c.requires.below c.requires.lies m p c.requires.ready.calm; falls = chosen_lighter st l c.requires.below c.requires.lies m p },
-        λ k. false≢true (e.clash.1 k),
-      );
-      fits = e.fits;
-    }
+    let t = g.T.BranchTable in
+    let n = g.B.Book.counts c.args.book.now in
+    let cs = g.B.Book.clauses c.args.book.now in
+    let m = moment t c.args.table.now c.args.trail.now c.args.choices.now in
+    let m' = moment t c.choose.new.table c.choose.new.trail c.choose.new.choices in
+    let f = chosen_there n cs (leader_of c.args.classes.now) c.args.l m m' c.requires.ready c.requires.below c.requires.lies c.choose.ensures in
+    (f, record { state = f.state; calm = λ k. false≢true (c.if-refresh.ensures.clash.1 k); fits = c.if-refresh.ensures.fits })

@@ -2,14 +2,14 @@ use Rattle.tableau.specs.Turns.{Steady, weight_at}
 use Rattle.tableau.specs.Views.{moment, Set}
 use Rattle.tableau.proofs.search.decide.Given as goal
 
-abbrev pub invariant-loop : goal.invariant-loop
-invariant-loop g l =
+abbrev pub invariant-loop-table : goal.invariant-loop-table
+invariant-loop-table g l =
     let t = g.T.BranchTable in
     let b = g.B.Book in
     Steady (b.counts l.book) (b.clauses l.book) (moment t l.initial.table l.initial.trail l.initial.choices) (moment t l.table l.trail l.choices)
     × Set b l.book (moment t l.table l.trail l.choices) l.classes
 
-abbrev pub decreases-loop : goal.decreases-loop
-decreases-loop g l =
+abbrev pub decreases-loop-table : goal.decreases-loop-table
+decreases-loop-table g l =
     let b = g.B.Book in
     weight_at (b.counts l.book) (b.clauses l.book) (moment g.T.BranchTable l.table l.trail l.choices)

@@ -7,34 +7,21 @@ use Rattle.tableau.proofs.Clauses.{assigns_below, satisfied, atom_below}
 use Rattle.tableau.proofs.States.{no_model}
 use Rattle.tableau.proofs.survey.survey_clause.Goals as goal
 
-pub size-k-end-requires : goal.size-k-end-requires
-size-k-end-requires g c =
+pub nth_names-requires-clause-narrow : goal.nth_names-requires-clause-narrow
+nth_names-requires-clause-narrow g c =
     let b = g.B.Book in
     let book = c.args.book.now in
     narrow_at (b.counts book) (get_or (b.clauses book) c.args.i []) c.ranges-ranges.result c.ranges-ranges.ensures
 
-pub nth_names-requires : goal.nth_names-requires
-nth_names-requires g c =
-    let b = g.B.Book in
-    let book = c.args.book.now in
-    record {
-      narrow = narrow_at (b.counts book) (get_or (b.clauses book) c.args.i []) c.ranges-ranges.result c.ranges-ranges.ensures;
-      inside = omega (arith, c.loop-k-test.true, c.size-k-end.ensures);
-    }
-
-pub evaluate-requires : goal.evaluate-requires
-evaluate-requires g c =
+pub evaluate-requires-clause-below : goal.evaluate-requires-clause-below
+evaluate-requires-clause-below g c =
     let b = g.B.Book in
     let book = c.args.book.now in
     let cl = get_or (b.clauses book) c.args.i [] in
     let r = c.ranges-ranges.result in
     let e = c.ranges-ranges.ensures in
     let n = size_at_index (b.counts book) cl r e c.size-k-end.result c.size-k-end.ensures in
-    record {
-      inside = c.requires.inside;
-      below = below_at (b.counts book) cl r e c.loop-k.k c.nth_names.result (omega (arith, c.loop-k-test.true, n)) c.nth_names.ensures;
-      reaches = c.requires.reaches;
-    }
+    below_at (b.counts book) cl r e c.loop-k.k c.nth_names.result (omega (arith, c.loop-k-test.true, n)) c.nth_names.ensures
 
 pub returns-in-Broken : goal.returns-in-Broken
 returns-in-Broken g c =
@@ -63,8 +50,8 @@ returns-in-Forced g c =
     let s = c.in-Forced.ensures in
     (atom_below (b.counts book) (b.clauses book) (b.lawful book) c.args.i c.requires.inside (names_of f) (assigns_below (b.counts book) f below) c.in-Forced.l s.1, s.0)
 
-pub returns-in-Loose : goal.returns-in-Loose
-returns-in-Loose g c =
+pub returns-in-Forced-2 : goal.returns-in-Forced-2
+returns-in-Forced-2 g c =
     let b = g.B.Book in
     let book = c.args.book.now in
     let cl = get_or (b.clauses book) c.args.i [] in
@@ -73,8 +60,8 @@ returns-in-Loose g c =
     let n = size_at_index (b.counts book) cl r e c.size-k-end.result c.size-k-end.ensures in
     let f = c.nth_names.result in
     let below = below_at (b.counts book) cl r e c.loop-k.k f (omega (arith, c.loop-k-test.true, n)) c.nth_names.ensures in
-    let s = c.in-Loose.ensures in
-    (atom_below (b.counts book) (b.clauses book) (b.lawful book) c.args.i c.requires.inside (names_of f) (assigns_below (b.counts book) f below) c.in-Loose.l s.1, s.0)
+    let s = c.in-Forced.ensures in
+    (atom_below (b.counts book) (b.clauses book) (b.lawful book) c.args.i c.requires.inside (names_of f) (assigns_below (b.counts book) f below) c.in-Forced.l s.1, s.0)
 
 pub loop-k-preserved : goal.loop-k-preserved
 loop-k-preserved g c =

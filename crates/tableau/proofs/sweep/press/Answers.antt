@@ -1,34 +1,21 @@
 use Rattle.std.proofs.Common.{[], get_or}
 use Rattle.tableau.specs.Signs.{instance}
 use Rattle.tableau.specs.Instances.{names_of}
-use Rattle.tableau.proofs.States.{reaches, no_model, entails}
+use Rattle.tableau.proofs.States.{no_model, entails}
 use Rattle.tableau.proofs.Clauses.{assigns_below, satisfied, atom_below}
 use Rattle.tableau.proofs.Going.{steady_here}
 use Rattle.tableau.proofs.sweep.press.Goals as goal
-
-pub evaluate-requires : goal.evaluate-requires
-evaluate-requires g c = record { inside = c.requires.inside; below = c.requires.below; reaches = reaches c.requires.ready.state }
-
-pub returns-in-Fulfilled : goal.returns-in-Fulfilled
-returns-in-Fulfilled g c = record { passed = (steady_here c.requires.ready.state, c.requires.ready.calm); fits = c.requires.ready.fits }
-
-pub returns-in-Loose : goal.returns-in-Loose
-returns-in-Loose g c = record { passed = (steady_here c.requires.ready.state, c.requires.ready.calm); fits = c.requires.ready.fits }
 
 pub returns-in-Broken : goal.returns-in-Broken
 returns-in-Broken g c =
     let b = g.B.Book in
     let book = c.args.book.now in
-    let n = c.args.names in
-    record {
-      passed = (
-        steady_here c.requires.ready.state,
-        no_model (g.T.BranchTable.marks c.args.table.now) (instance (b.counts book) (names_of n) (get_or (b.clauses book) c.args.i []))
-            (satisfied (b.counts book) (b.clauses book) (b.lawful book) c.args.i c.requires.inside (names_of n) (assigns_below (b.counts book) n c.requires.below))
-            c.in-Broken.ensures,
-      );
-      fits = c.requires.ready.fits;
-    }
+    let n = c.args.names in (
+      steady_here c.requires.ready.state,
+      no_model (g.T.BranchTable.marks c.args.table.now) (instance (b.counts book) (names_of n) (get_or (b.clauses book) c.args.i []))
+          (satisfied (b.counts book) (b.clauses book) (b.lawful book) c.args.i c.requires.inside (names_of n) (assigns_below (b.counts book) n c.requires.below))
+          c.in-Broken.ensures,
+    )
 
 pub enforce-requires : goal.enforce-requires
 enforce-requires g c =

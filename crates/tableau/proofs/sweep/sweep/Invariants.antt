@@ -1,10 +1,8 @@
-use Rattle.tableau.specs.Turns.{Gone}
-use Rattle.tableau.specs.Views.{moment, Set}
+use Rattle.std.proofs.Common.{Ok}
+use Rattle.tableau.specs.Views.{moment, Passes}
 use Rattle.tableau.proofs.sweep.sweep.Given as goal
 
 abbrev pub invariant-loop-i : goal.invariant-loop-i
 invariant-loop-i g l =
     let t = g.T.BranchTable in
-    let b = g.B.Book in
-    Gone (b.counts l.book) (b.clauses l.book) (moment t l.initial.table l.initial.trail l.choices) (moment t l.table l.trail l.choices) l.moved
-    × Set b l.book (moment t l.table l.trail l.choices) l.classes
+    Passes g.B.Book l.book (moment t l.initial.table l.initial.trail l.choices) (moment t l.table l.trail l.choices) l.classes (Ok l.moved)
