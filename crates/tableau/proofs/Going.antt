@@ -1,20 +1,28 @@
 -- One part of a turn after the other.
-use Rattle.std.proofs.Common.{◌≡◌, ℕ, ◌<◌, Bool, true, false, ◌||◌, List, Ok, Err, get_or, set, sym, refl, ◌∙◌, subst, arith}
+use Rattle.std.proofs.Common.{◌≡◌, ℕ, ◌<◌, Bool, true, false, Ok, Err, Result, List, length, get_or, set, Bor, sym, refl, ap, ◌∙◌, subst, arith}
+use Rattle.std.specs.Result.{IsErr}
 use Rattle.syntax.specs.declared.types.Mark.{Mark}
 use Rattle.syntax.specs.declared.types.Mark.TheVariants.{Open, Yes, No}
 use Rattle.syntax.specs.declared.counts.Counts.{Counts}
 use Rattle.syntax.specs.Numbers.{atoms, number_of}
 use Rattle.semantics.specs.Meaning.{Clause}
-use Rattle.semantics.specs.Branch.{Branch, Clash, ClassTable, signed as signed_so}
+use Rattle.semantics.specs.Branch.{Clash, ClassTable as Classes, signed as signed_so}
 use Rattle.semantics.proofs.Steps.{no_clash}
-use Rattle.syntax.specs.declared.types.SignedAtom.{SignedAtom}
-use Rattle.tableau.specs.Signs.{Says, OpenIn, Modelled}
-use Rattle.tableau.specs.Branch.{Moment}
-use Rattle.tableau.specs.Scans.{NoModel, Entails}
-use Rattle.tableau.specs.Turns.{Put, Chosen, SoundState, Empty, Lighter, Steady, Gone, Ready, Passed}
-use Rattle.tableau.specs.declared.types.Hopeless.{Hopeless}
+use Rattle.classes.specs.declared.table.ClassTable.{ClassTable}
+use Rattle.classes.specs.Leaders.{leader_of}
+use Rattle.tables.specs.declared.table.BranchTable.{Ghosts as TableGhosts}
+use Rattle.tables.specs.Items.{items}
 use Rattle.tables.specs.Marks.{signed}
-use Rattle.tableau.proofs.States.{put_back, forces, forced_step, forced_lighter, chosen_step, chosen_lighter}
+use Rattle.books.specs.declared.book.Book.{Ghosts as BookGhosts}
+use Rattle.syntax.specs.declared.types.SignedAtom.{SignedAtom}
+use Rattle.tableau.specs.declared.types.Search.{Search}
+use Rattle.tableau.specs.declared.types.Hopeless.{Hopeless}
+use Rattle.tableau.specs.Signs.{Says, OpenIn, Modelled}
+use Rattle.tableau.specs.Branch.{State, weight}
+use Rattle.tableau.specs.Scans.{NoModel}
+use Rattle.tableau.specs.Turns.{Put, Chosen}
+use Rattle.tableau.specs.Views.{moment, Same, ModelsOf, Searching, Ready, Lost, Follows, Classed, Told, weight_of, Falls, Gone, Tries}
+use Rattle.tableau.proofs.States.{put_stands, put_back, put_length, reaches, forces, forced_step, forced_lighter, chosen_step, chosen_lighter}
 
 -- a model's valuation that agrees with the marks: the model agrees with the branch
 pub says_so : (m : Mark) (a s : Bool) → Says m a → m ≡ signed_so s → a ≡ s
@@ -29,60 +37,64 @@ pub clash_hopeless : (c : Counts) (clauses : List Clause) (ms : List Mark) → C
 clash_hopeless c clauses ms clash v m agrees =
     no_clash c ms m.by (λ g lawful s e. sym (m.same g lawful) ∙ says_so (get_or ms (number_of c g) Open) (v (number_of c g)) s (agrees (number_of c g)) e) clash
 
-module _ {c : Counts} {clauses : List Clause} where
-  pub steady_here : {m : Moment} → SoundState c clauses m → Steady c clauses m m
-  steady_here st = record { frame_is = refl; state = st; falls = omega arith }
+module _ {B T : Type 0} (b : BookGhosts B) (t : TableGhosts T) where
+  -- a branch that clashes is lost
+  pub clash_lost : (s : Search B T) → Searching b t s → Clash (b.counts s.book.now) (t.marks s.table.now) → Lost b t s
+  clash_lost s state clash = record { state = state; hopeless = clash_hopeless (b.counts s.book.now) (b.clauses s.book.now) (t.marks s.table.now) clash }
 
-  pub lighter_steady : {m m' : Moment} → Lighter c clauses m m' → Steady c clauses m m'
-  lighter_steady l = record { frame_is = l.frame_is; state = l.state; falls = omega (arith, l.falls) }
+  pub gone_here : (s : Search B T) → Gone b t s s false
+  gone_here s = record { same = record { book = refl; table = refl; trail = refl; choices = refl }; frame = refl; falls = omega arith }
 
-  pub steady_on : {m m' m'' : Moment} → Steady c clauses m m' → Steady c clauses m' m'' → Steady c clauses m m''
-  steady_on p q = record { frame_is = q.frame_is ∙ p.frame_is; state = q.state; falls = omega (arith, p.falls, q.falls) }
+  pub gone_after : (s s' s'' : Search B T) (v : Bool) → Gone b t s s' false → Gone b t s' s'' v → Gone b t s s'' v
+  gone_after s s' s'' v p q = record { same = record { book = q.same.book ∙ p.same.book; table = q.same.table ∙ p.same.table; trail = q.same.trail ∙ p.same.trail; choices = q.same.choices ∙ p.same.choices }; frame = q.frame ∙ p.frame; falls = falls v q.falls }
+    where
+      falls : (v : Bool) → Falls b t v (weight_of b t s') (weight_of b t s'') → Falls b t v (weight_of b t s) (weight_of b t s'')
+      falls true h = omega (arith, h, p.falls)
+      falls false h = omega (arith, h, p.falls)
 
-  pub lighter_on : {m m' m'' : Moment} → Steady c clauses m m' → Lighter c clauses m' m'' → Lighter c clauses m m''
-  lighter_on p q = record { frame_is = q.frame_is ∙ p.frame_is; state = q.state; falls = omega (arith, p.falls, q.falls) }
+  -- over one book: the invariant, and the weight
+  module _ (s s' : Search B T) (book : s'.book ≡ s.book) where
+    pub there : State (ModelsOf b t s) (Clash (b.counts s.book.now)) (atoms (b.counts s.book.now)) (moment t s') → Searching b t s'
+    there = subst (λ (k : Bor B). State (Modelled (b.counts k.now) (b.clauses k.now)) (Clash (b.counts k.now)) (atoms (b.counts k.now)) (moment t s')) (sym book)
 
-  pub lighter_then : {m m' m'' : Moment} → Lighter c clauses m m' → Steady c clauses m' m'' → Lighter c clauses m m''
-  lighter_then p q = record { frame_is = q.frame_is ∙ p.frame_is; state = q.state; falls = omega (arith, p.falls, q.falls) }
+    pub weighs : weight_of b t s' ≡ weight (atoms (b.counts s.book.now)) (items s'.trail.now) (items s'.choices.now)
+    weighs = ap (λ (k : Bor B). weight (atoms (b.counts k.now)) (items s'.trail.now) (items s'.choices.now)) book
 
-  pub empty_on : {m m' m'' : Moment} → Steady c clauses m m' → Empty c clauses m' m'' → Empty c clauses m m''
-  empty_on p q = record { frame_is = q.frame_is ∙ p.frame_is; none = q.none; clear = q.clear }
+  -- an atom told for a reason, or chosen
+  module _ (s s' : Search B T) (l : SignedAtom) (r : Ready b t s) (below : l.atom < atoms (b.counts s.book.now)) (lies : OpenIn (t.marks s.table.now) l) (same : Same s s') where
+    pub forced_there : Put l (moment t s) (moment t s') → Follows b t s l → Gone b t s s' true × Searching b t s'
+    forced_there p why = (
+      record { same = same; frame = p.frame_is; falls = omega (arith, weighs s s' same.book, forced_lighter r.state l below lies (moment t s') p) },
+      there s s' same.book (forced_step r.state l below lies (moment t s') p (forces r.state l why)),
+    )
 
--- one sweep after another
-module _ (c : Counts) (clauses : List Clause) (m m' m'' : Moment) where
-  pub gone_steady : (b : Bool) → Gone c clauses m m' b → Steady c clauses m m'
-  gone_steady true g = lighter_steady g
-  gone_steady false g = g
+    pub chosen_there : Chosen l (moment t s) (moment t s') → Gone b t s s' true × Searching b t s'
+    chosen_there p = (
+      record { same = same; frame = p.frame_is; falls = omega (arith, weighs s s' same.book, chosen_lighter r.state l below lies (moment t s') p) },
+      there s s' same.book (chosen_step r.state l below lies (moment t s') p r.calm),
+    )
 
-  gone_more : (b v : Bool) → Gone c clauses m m' b → Gone c clauses m' m'' v → Gone c clauses m m'' (b || v)
-  gone_more true true p q = lighter_then p (lighter_steady q)
-  gone_more true false p q = lighter_then p q
-  gone_more false true p q = lighter_on p q
-  gone_more false false p q = steady_on p q
+    pub told_there : t.marks s'.table.now ≡ set (t.marks s.table.now) l.atom (signed l.sign) → s'.classes ≡ s.classes → Told b t s' l
+    told_there e k =
+        let ms = t.marks s.table.now in
+        let ms' = t.marks s'.table.now in
+        let lt : l.atom < length ms = omega (arith, below, reaches r.state) in
+        record {
+          below = subst (λ (i : Bor B). l.atom < atoms (b.counts i.now)) (sym same.book) below;
+          inside = omega (arith, lt, put_length l ms ms' e);
+          stands = put_stands l ms ms' e lt;
+          fits = subst (λ (i : Bor B). Classes (b.counts i.now) (set ms' l.atom Open) (leader_of s'.classes)) (sym same.book) (subst (λ n. Classes (b.counts s.book.now) n (leader_of s'.classes)) (sym (put_back l ms ms' e lies)) (subst (λ i. Classes (b.counts s.book.now) ms (leader_of i)) (sym k) r.fits));
+          calm = subst (λ (i : Bor B). Clash (b.counts i.now) (set ms' l.atom Open) → ⊥) (sym same.book) (λ c. r.calm (subst (Clash (b.counts s.book.now)) (put_back l ms ms' e lies) c));
+        }
 
-  -- nothing was told yet
-  pub passed_none : (leader : ℕ → ℕ) → Ready c clauses m leader → Passed c clauses m m leader (Ok false)
-  passed_none leader r = (steady_here r.state, r)
+  -- and the classes read
+  module _ (s s' : Search B T) (told : Gone b t s s' true × Searching b t s') where
+    pub tried_ok : (k : ClassTable) → Classed b t s' (Ok k) → Tries b t s (record s' { classes = k }) (Ok tt)
+    tried_ok k h = (
+      record { same = record { book = told.0.same.book; table = told.0.same.table; trail = told.0.same.trail; choices = told.0.same.choices }; frame = told.0.frame; falls = told.0.falls },
+      record { state = told.1; calm = h.1; fits = h.0 },
+    )
 
-  module _ (leader leader' : ℕ → ℕ) (b : Bool) (before : Passed c clauses m m' leader (Ok b)) where
-    pub passed_more : (v : Bool) → Passed c clauses m' m'' leader' (Ok v) → Passed c clauses m m'' leader' (Ok (b || v))
-    passed_more v p = (gone_more b v before.0 p.0, p.1)
-
-    pub passed_lost : (e : Hopeless) → Passed c clauses m' m'' leader' (Err e) → Passed c clauses m m'' leader' (Err e)
-    passed_lost e p = (steady_on (gone_steady b before.0) p.0, p.1)
-
--- an atom told for a reason, and one chosen
-module _ (c : Counts) (clauses : List Clause) (leader : ℕ → ℕ) (l : SignedAtom) (m m' : Moment) (r : Ready c clauses m leader) (below : l.atom < atoms c) (lies : OpenIn m.marks l) where
-  pub forced_there : Put l m m' → Entails (Modelled c clauses) m.marks l → Lighter c clauses m m'
-  forced_there p why = record { frame_is = p.frame_is; state = forced_step r.state l below lies m' p (forces r.state l why); falls = forced_lighter r.state l below lies m' p }
-
-  pub chosen_there : Chosen l m m' → Lighter c clauses m m'
-  chosen_there p = record { frame_is = p.frame_is; state = chosen_step r.state l below lies m' p r.calm; falls = chosen_lighter r.state l below lies m' p }
-
--- before a told atom
-module _ (c : Counts) (l : SignedAtom) (ms ms' : List Mark) (is : ms' ≡ set ms l.atom (signed l.sign)) (lies : OpenIn ms l) where
-  pub fits_before : (leader : ℕ → ℕ) → ClassTable c ms leader → ClassTable c (set ms' l.atom Open) leader
-  fits_before leader fits = let P : Branch → Type 0 = λ m. ClassTable c m leader in subst P (sym (put_back l ms ms' is lies)) fits
-
-  pub calm_before : (Clash c ms → ⊥) → Clash c (set ms' l.atom Open) → ⊥
-  calm_before calm k = calm (subst (Clash c) (put_back l ms ms' is lies) k)
+    pub tried_err : (e : Hopeless) → Classed b t s' (Err e) → (r : Result Unit Hopeless) → IsErr r → Tries b t s s' r
+    tried_err e h (Ok u) i = grind arith
+    tried_err e h (Err f) i = (record { same = told.0.same; frame = told.0.frame; falls = omega (arith, told.0.falls) }, clash_lost s' told.1 h)

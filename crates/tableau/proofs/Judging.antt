@@ -1,5 +1,5 @@
 -- From the search to the judgement.
-use Rattle.std.proofs.Common.{◌≡◌, ℕ, zero, suc, ◌≤◌, Bool, true, false, eqb, List, [], ◌∷◌, length, get_or, take, drop, Some, None, Ok, Err, Option, Result, sym, refl, ap, ◌∙◌, subst, arith}
+use Rattle.std.proofs.Common.{◌≡◌, ℕ, zero, suc, ◌≤◌, Bool, true, false, eqb, List, [], ◌∷◌, length, get_or, take, drop, Some, None, Ok, Err, Option, Result, Bor, sym, refl, ap, ◌∙◌, subst, arith}
 use Rattle.std.proofs.lemmas.List.{ext_get_or}
 use Rattle.std.proofs.lemmas.Bool.Decides.{nat_tests}
 use Rattle.syntax.specs.declared.types.Mark.{Mark}
@@ -16,11 +16,19 @@ use Rattle.semantics.specs.Judgements.{Contradictory}
 use Rattle.semantics.proofs.Reading.{some_bytes, byte_value}
 use Rattle.tables.specs.Marks.{cleared}
 use Rattle.tableau.specs.declared.verdict.Verdict.TheVariants.{Consistent, Contradictory as Contrary}
-use Rattle.tableau.specs.Signs.{Clear, Modelled}
-use Rattle.tableau.specs.Branch.{Moment}
-use Rattle.tableau.specs.Turns.{Modelless, Decided}
-use Rattle.tableau.specs.Judged.{size_refusal, judge_refusal, OneVerdict, Searched}
+use Rattle.classes.specs.declared.table.ClassTable.{ClassTable as ClassTableOf}
+use Rattle.classes.specs.Leaders.{leader_of}
+use Rattle.tables.specs.declared.table.BranchTable.{Ghosts as TableGhosts}
+use Rattle.tables.specs.Items.{items, slots_of}
+use Rattle.books.specs.declared.book.Book.{Ghosts as BookGhosts}
+use Rattle.syntax.proofs.Laws.{few}
+use Rattle.tableau.specs.declared.types.Search.{Search}
+use Rattle.tableau.specs.Views.{moment, Ready, Decides}
+use Rattle.tableau.specs.Branch.{Frame}
 use Rattle.tableau.proofs.States.{nothing_past}
+use Rattle.tableau.specs.Signs.{Clear, Modelled}
+use Rattle.tableau.specs.Turns.{Modelless}
+use Rattle.tableau.specs.Judged.{size_refusal, judge_refusal, BranchFound, Searched, OneVerdict}
 
 -- every model has a valuation, so without one there is no model
 pub no_model_at_all : (c : Counts) (clauses : List Clause) → Modelless (Modelled c clauses) → Contradictory c clauses
@@ -50,14 +58,74 @@ pub clear_cleared : (ms ns : List Mark) → Clear ns → length ns ≡ length ms
 clear_cleared ms ns clear e =
     ext_get_or Open ns (cleared ms) (e ∙ sym (cleared_length ms)) (λ k h. clear k ∙ sym (cleared_clear ms k))
 
--- what the search came to
-pub decided_frame : (c : Counts) (clauses : List Clause) (m m' : Moment) (leader : ℕ → ℕ) (r : Bool) → Decided c clauses m m' leader r → m'.frame ≡ m.frame
-decided_frame c clauses m m' leader true d = d.0.frame_is
-decided_frame c clauses m m' leader false d = d.frame_is
+-- the search before its first turn
+module _ {B T : Type 0} (b : BookGhosts B) (t : TableGhosts T) (s : Search B T) (clear : Clear (t.marks s.table.now)) where
+  pub ready_first :
+      atoms (b.counts s.book.now) ≤ length (t.marks s.table.now) → atoms (b.counts s.book.now) ≤ t.room s.table.now →
+      atoms (b.counts s.book.now) ≤ slots_of s.trail.now → atoms (b.counts s.book.now) ≤ slots_of s.choices.now →
+      items s.trail.now ≡ [] → items s.choices.now ≡ [] → ClassTable (b.counts s.book.now) (t.marks s.table.now) (leader_of s.classes) → Ready b t s
+  ready_first reach room trail choices empty bare fits = record {
+    state = record {
+      steps = [];
+      base = t.marks s.table.now;
+      clear = clear;
+      sound = tt;
+      marks_is = refl;
+      trail_is = empty;
+      choices_is = bare;
+      roomy = record { short = omega (arith, few (b.counts s.book.now)); reaches = reach; table_room = room; trail_room = trail; choice_room = choices };
+      reach_is = refl;
+    };
+    calm = clear_calm (b.counts s.book.now) (t.marks s.table.now) clear;
+    fits = fits;
+  }
 
-pub searched : (c : Counts) (clauses : List Clause) (m m' : Moment) (leader : ℕ → ℕ) (r : Bool) → Decided c clauses m m' leader r → Searched c clauses m'.marks leader r
-searched c clauses m m' leader true d = record { classes = d.1.fits; no_clash = d.1.calm; fulfilled = d.2; beyond = nothing_past d.1.state }
-searched c clauses m m' leader false d = (no_model_at_all c clauses d.none, d.clear)
+-- what the search answers, and that capacity and memory of the table stay
+pub record Answered (A R L : Type 0) : Type 0 where
+  pub searched : A
+  pub room : R
+  pub loan : L
+
+-- and after its last, where the table is then the caller's again
+module _ {B T : Type 0} (b : BookGhosts B) (t : TableGhosts T) (s s' : Search B T) (left : T) (is : left ≡ s'.table.now) where
+  frame_room : (moment t s').frame ≡ (moment t s).frame → t.room left ≡ t.room s.table.now
+  frame_room f = ap t.room is ∙ ap (λ (x : Frame). x.room) f
+
+  frame_loan : (moment t s').frame ≡ (moment t s).frame → t.loan left ≡ t.loan s.table.now
+  frame_loan f = ap t.loan is ∙ ap (λ (x : Frame). x.loan) f
+
+  frame_reach : (moment t s').frame ≡ (moment t s).frame → length (t.marks left) ≡ length (t.marks s.table.now)
+  frame_reach f = ap (λ k. length (t.marks k)) is ∙ ap (λ (x : Frame). x.reach) f
+
+  pub searched_some : Decides b t s s' true → Answered (Searched (b.counts s.book.now) (b.clauses s.book.now) (t.marks s.table.now) (t.marks left) (Some s'.classes)) (t.room left ≡ t.room s.table.now) (t.loan left ≡ t.loan s.table.now)
+  searched_some d =
+      let P : Bor B → Type 0 = λ k. BranchFound (b.counts k.now) (b.clauses k.now) (t.marks s'.table.now) (leader_of s'.classes) in
+      let found = subst P d.0.same.book (record { classes = d.1.fits; no_clash = d.1.calm; fulfilled = d.2; beyond = nothing_past d.1.state }) in
+      record {
+        searched = (frame_reach d.0.frame, subst (λ k. BranchFound (b.counts s.book.now) (b.clauses s.book.now) (t.marks k) (leader_of s'.classes)) (sym is) found);
+        room = frame_room d.0.frame;
+        loan = frame_loan d.0.frame;
+      }
+
+  pub searched_none : Decides b t s s' false → Answered (Searched (b.counts s.book.now) (b.clauses s.book.now) (t.marks s.table.now) (t.marks left) None) (t.room left ≡ t.room s.table.now) (t.loan left ≡ t.loan s.table.now)
+  searched_none d =
+      let P : Bor B → Type 0 = λ k. Contradictory (b.counts k.now) (b.clauses k.now) in
+      record {
+        searched = (
+          clear_cleared (t.marks s.table.now) (t.marks left) (subst (λ k. Clear (t.marks k)) (sym is) d.clear) (frame_reach d.frame),
+          subst P d.same.book (no_model_at_all (b.counts s'.book.now) (b.clauses s'.book.now) d.none),
+        );
+        room = frame_room d.frame;
+        loan = frame_loan d.frame;
+      }
+
+-- over marks that were cleared first
+cleared_again : (ms : List Mark) → cleared (cleared ms) ≡ cleared ms
+cleared_again ms = clear_cleared ms (cleared (cleared ms)) (cleared_clear (cleared ms)) (cleared_length (cleared ms) ∙ cleared_length ms)
+
+pub searched_after : (c : Counts) (clauses : List Clause) (before now after : List Mark) → now ≡ cleared before → (r : Option ClassTableOf) → Searched c clauses now after r → Searched c clauses before after r
+searched_after c clauses before now after is (Some k) h = (h.0 ∙ ap length is ∙ cleared_length before, h.1)
+searched_after c clauses before now after is None h = (h.0 ∙ ap cleared is ∙ cleared_again before, h.1)
 
 -- with no cause of refusal everything is large enough
 pub record Enough (c : Counts) (reach room trail choices model : ℕ) : Type 0 where

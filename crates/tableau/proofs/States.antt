@@ -7,7 +7,7 @@ use Rattle.syntax.specs.declared.types.Mark.TheVariants.{Open}
 use Rattle.tables.specs.declared.stack.Choice.{Choice}
 use Rattle.tables.specs.Marks.{signed, standing}
 use Rattle.tables.specs.declared.table.BranchTable.{Ghosts as TableGhosts}
-use Rattle.tables.specs.declared.stack.Stack.{Stack}
+use Rattle.tableau.specs.declared.types.Search.{Search}
 use Rattle.tables.specs.Items.{slots_of, loan_of}
 use Rattle.tables.specs.Walks.{opened}
 use Rattle.tables.specs.Counting.{OpenFrom}
@@ -40,11 +40,11 @@ module _ (l : SignedAtom) (ms : List Mark) (ms' : List Mark) (is : ms' ≡ set m
   put_length = ap length is ∙ length-set ms l.atom (signed l.sign)
 
 pub same_frame :
-    {T : Type 0} (t : TableGhosts T) (table table' : T) (trail trail' : Stack ℕ) (choices choices' : Stack Choice) →
-    t.loan table' ≡ t.loan table → t.room table' ≡ t.room table → length (t.marks table') ≡ length (t.marks table) →
-    slots_of trail' ≡ slots_of trail → loan_of trail' ≡ loan_of trail → slots_of choices' ≡ slots_of choices → loan_of choices' ≡ loan_of choices →
-    (moment t table' trail' choices').frame ≡ (moment t table trail choices).frame
-same_frame t table table' trail trail' choices choices' a b c d e f g = cc
+    {B T : Type 0} (t : TableGhosts T) (s s' : Search B T) →
+    t.loan s'.table.now ≡ t.loan s.table.now → t.room s'.table.now ≡ t.room s.table.now → length (t.marks s'.table.now) ≡ length (t.marks s.table.now) →
+    slots_of s'.trail.now ≡ slots_of s.trail.now → loan_of s'.trail.now ≡ loan_of s.trail.now → slots_of s'.choices.now ≡ slots_of s.choices.now → loan_of s'.choices.now ≡ loan_of s.choices.now →
+    (moment t s').frame ≡ (moment t s).frame
+same_frame t s s' a b c d e f g = cc
 
 -- the opposite of a choice
 abbrev pub flipped : Choice → SignedAtom
@@ -95,7 +95,7 @@ module _ {M : Models} {K : Clashes} {atoms : ℕ} {m : Moment} (st : State M K a
     pub shorter : length m.trail < atoms
     shorter = omega (arith, height_is, steps_lt M K atoms st.base st.clear base_reaches st.steps l st.sound lt (lies_there l lies))
 
-    pub puttable : Puttable l m.marks m.frame.room m.trail m.frame.trail_slots
+    pub puttable : Puttable l m
     puttable =
         record {
           inside = omega (arith, reaches);

@@ -16,7 +16,8 @@ use Rattle.tables.specs.declared.space.Space.{Space}
 use Rattle.tables.specs.Memory.{Loan}
 use Rattle.tables.specs.Marks.{cleared}
 use Rattle.tables.specs.Counting.{OpenFrom}
-use Rattle.tableau.specs.Signs.{Clear}
+use Rattle.classes.specs.declared.table.ClassTable.{ClassTable as ClassTableOf}
+use Rattle.classes.specs.Leaders.{leader_of}
 use Rattle.tableau.specs.declared.verdict.Verdict.{Verdict}
 use Rattle.tableau.specs.declared.verdict.Verdict.TheVariants as verdict
 
@@ -108,6 +109,6 @@ pub record BranchFound (c : Counts) (clauses : List Clause) (ms : List Mark) (le
   pub fulfilled : Fulfilled c clauses ms
   pub beyond : OpenFrom (atoms c) ms
 
-abbrev pub Searched : Counts → List Clause → List Mark → (ℕ → ℕ) → Bool → Type 0
-Searched c clauses ms leader true = BranchFound c clauses ms leader
-Searched c clauses ms leader false = Contradictory c clauses × Clear ms
+abbrev pub Searched : Counts → List Clause → (before after : List Mark) → Option ClassTableOf → Type 0
+Searched c clauses before after (Some k) = (length after ≡ length before) × BranchFound c clauses after (leader_of k)
+Searched c clauses before after None = (after ≡ cleared before) × Contradictory c clauses

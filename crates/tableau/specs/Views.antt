@@ -1,62 +1,132 @@
--- The search as the code holds it. t and b are the ghost members of the table's type and of the book's.
-use Rattle.std.specs.Prelude.{ℕ, Bool, length, Result}
+-- The search as the code holds it, and what its steps do. b and t are the ghost members of the book's type and of the table's.
+use Rattle.std.specs.Prelude.{◌≡◌, ℕ, ◌<◌, ◌≤◌, Bool, true, false, length, Ok, Err, Result, slice_set}
+use Rattle.syntax.specs.declared.types.Mark.TheVariants.{Open}
+use Rattle.syntax.specs.Numbers.{atoms}
+use Rattle.semantics.specs.Branch.{Clash, Fulfilled, ClassTable as Classes}
 use Rattle.classes.specs.declared.table.ClassTable.{ClassTable}
 use Rattle.classes.specs.Leaders.{leader_of}
 use Rattle.tables.specs.declared.table.BranchTable.{Ghosts as TableGhosts}
-use Rattle.tables.specs.declared.stack.Stack.{Stack}
-use Rattle.tables.specs.declared.stack.Choice.{Choice}
 use Rattle.tables.specs.Items.{items, slots_of, loan_of}
 use Rattle.books.specs.declared.book.Book.{Ghosts as BookGhosts}
 use Rattle.syntax.specs.declared.types.SignedAtom.{SignedAtom}
+use Rattle.tableau.specs.declared.types.Search.{Search}
 use Rattle.tableau.specs.declared.types.Hopeless.{Hopeless}
-use Rattle.tableau.specs.Signs.{Modelled}
-use Rattle.tableau.specs.Branch.{Moment}
-use Rattle.tableau.specs.Scans.{Entails}
-use Rattle.tableau.specs.Turns.{SoundState, Ready, Lost, Passed, Tried, Turned, Flipped, Retreated, Decided}
+use Rattle.tableau.specs.Signs.{Clear, StandsIn, Modelled}
+use Rattle.tableau.specs.Branch.{Moment, Models, State, weight}
+use Rattle.tableau.specs.Scans.{NoModel, Entails}
+use Rattle.tableau.specs.Turns.{Modelless}
 
-abbrev pub moment : {T : Type 0} → TableGhosts T → T → Stack ℕ → Stack Choice → Moment
-moment t table trail choices = record {
+abbrev pub moment : {B T : Type 0} → TableGhosts T → Search B T → Moment
+moment t s = record {
   frame = record {
-    loan = t.loan table;
-    room = t.room table;
-    reach = length (t.marks table);
-    trail_slots = slots_of trail;
-    trail_loan = loan_of trail;
-    choice_slots = slots_of choices;
-    choice_loan = loan_of choices;
+    loan = t.loan s.table.now;
+    room = t.room s.table.now;
+    reach = length (t.marks s.table.now);
+    trail_slots = slots_of s.trail.now;
+    trail_loan = loan_of s.trail.now;
+    choice_slots = slots_of s.choices.now;
+    choice_loan = loan_of s.choices.now;
   };
-  marks = t.marks table;
-  trail = items trail;
-  choices = items choices;
+  marks = t.marks s.table.now;
+  trail = items s.trail.now;
+  choices = items s.choices.now;
 }
 
-module _ {B : Type 0} (b : BookGhosts B) (book : B) where
-  abbrev pub Searching : Moment → Type 0
-  Searching m = SoundState (b.counts book) (b.clauses book) m
+-- the book, the table and the stacks are those that were lent
+pub record Same {B T : Type 0} (s s' : Search B T) : Type 0 where
+  pub book : s'.book ≡ s.book
+  pub table : s'.table.ghost_name ≡ s.table.ghost_name
+  pub trail : s'.trail.ghost_name ≡ s.trail.ghost_name
+  pub choices : s'.choices.ghost_name ≡ s.choices.ghost_name
 
-  abbrev pub Set : Moment → ClassTable → Type 0
-  Set m classes = Ready (b.counts book) (b.clauses book) m (leader_of classes)
+module _ {B T : Type 0} (b : BookGhosts B) (t : TableGhosts T) where
+  -- the models of the book, by their valuations
+  abbrev pub ModelsOf : Search B T → Models
+  ModelsOf s = Modelled (b.counts s.book.now) (b.clauses s.book.now)
 
-  abbrev pub Follows : Moment → SignedAtom → Type 0
-  Follows m l = Entails (Modelled (b.counts book) (b.clauses book)) m.marks l
+  -- the invariant
+  abbrev pub Searching : Search B T → Type 0
+  Searching s = State (ModelsOf s) (Clash (b.counts s.book.now)) (atoms (b.counts s.book.now)) (moment t s)
 
-  abbrev pub NoHope : Moment → Type 0
-  NoHope m = Lost (b.counts book) (b.clauses book) m
+  -- and between the parts of a turn: nothing clashes, and the class table fits
+  pub record Ready (s : Search B T) : Type 0 where
+    pub state : Searching s
+    pub calm : Clash (b.counts s.book.now) (t.marks s.table.now) → ⊥
+    pub fits : Classes (b.counts s.book.now) (t.marks s.table.now) (leader_of s.classes)
 
-  abbrev pub Passes : Moment → Moment → ClassTable → Result Bool Hopeless → Type 0
-  Passes m m' classes r = Passed (b.counts book) (b.clauses book) m m' (leader_of classes) r
+  -- no model agrees with the branch
+  pub record Lost (s : Search B T) : Type 0 where
+    pub state : Searching s
+    pub hopeless : NoModel (ModelsOf s) (t.marks s.table.now)
 
-  abbrev pub Tries : Moment → Moment → ClassTable → Result Unit Hopeless → Type 0
-  Tries m m' classes r = Tried (b.counts book) (b.clauses book) m m' (leader_of classes) r
+  -- every model that agrees with the branch makes the signed atom hold
+  abbrev pub Follows : Search B T → SignedAtom → Type 0
+  Follows s l = Entails (ModelsOf s) (t.marks s.table.now) l
 
-  abbrev pub Turns : Moment → Moment → ClassTable → Result Bool Hopeless → Type 0
-  Turns m m' classes r = Turned (b.counts book) (b.clauses book) m m' (leader_of classes) r
+  -- the branch fulfils every instance
+  abbrev pub Fulfils : Search B T → Type 0
+  Fulfils s = Fulfilled (b.counts s.book.now) (b.clauses s.book.now) (t.marks s.table.now)
 
-  abbrev pub Flips : Moment → Moment → Bool → Type 0
-  Flips m m' r = Flipped (b.counts book) (b.clauses book) m m' r
+  -- what was read of the classes: they fit, and nothing clashes; or something does
+  abbrev pub Classed : Search B T → Result ClassTable Hopeless → Type 0
+  Classed s (Ok k) = Classes (b.counts s.book.now) (t.marks s.table.now) (leader_of k) × (Clash (b.counts s.book.now) (t.marks s.table.now) → ⊥)
+  Classed s (Err _) = Clash (b.counts s.book.now) (t.marks s.table.now)
 
-  abbrev pub Retreats : Moment → Moment → ClassTable → Bool → Type 0
-  Retreats m m' classes r = Retreated (b.counts book) (b.clauses book) m m' (leader_of classes) r
+  -- the signed atom was told on a branch that did not clash and that the class table fits
+  pub record Told (s : Search B T) (l : SignedAtom) : Type 0 where
+    pub below : l.atom < atoms (b.counts s.book.now)
+    pub inside : l.atom < length (t.marks s.table.now)
+    pub stands : StandsIn (t.marks s.table.now) l
+    pub fits : Classes (b.counts s.book.now) (slice_set (t.marks s.table.now) l.atom Open) (leader_of s.classes)
+    pub calm : Clash (b.counts s.book.now) (slice_set (t.marks s.table.now) l.atom Open) → ⊥
 
-  abbrev pub Decides : Moment → Moment → ClassTable → Bool → Type 0
-  Decides m m' classes r = Decided (b.counts book) (b.clauses book) m m' (leader_of classes) r
+  abbrev pub weight_of : Search B T → ℕ
+  weight_of s = weight (atoms (b.counts s.book.now)) (items s.trail.now) (items s.choices.now)
+
+  abbrev pub Falls : Bool → ℕ → ℕ → Type 0
+  Falls true v w = w < v
+  Falls false v w = w ≤ v
+
+  -- steps that keep what is lent; the weight falls, if they told something, and else does not rise
+  pub record Gone (s s' : Search B T) (moved : Bool) : Type 0 where
+    pub same : Same s s'
+    pub frame : (moment t s').frame ≡ (moment t s).frame
+    pub falls : Falls moved (weight_of s) (weight_of s')
+
+  -- there is no model, and everything was taken back
+  pub record Emptied (s s' : Search B T) : Type 0 where
+    pub same : Same s s'
+    pub frame : (moment t s').frame ≡ (moment t s).frame
+    pub none : Modelless (ModelsOf s')
+    pub clear : Clear (t.marks s'.table.now)
+
+  -- a sweep: whether something was told; or the branch is lost
+  abbrev pub Passes : Search B T → Search B T → Result Bool Hopeless → Type 0
+  Passes s s' (Ok moved) = Gone s s' moved × Ready s'
+  Passes s s' (Err _) = Gone s s' false × Lost s'
+
+  -- an atom was told; or the branch is lost
+  abbrev pub Tries : Search B T → Search B T → Result Unit Hopeless → Type 0
+  Tries s s' (Ok _) = Gone s s' true × Ready s'
+  Tries s s' (Err _) = Gone s s' false × Lost s'
+
+  -- a turn: something was told or chosen; or every instance is fulfilled; or the branch is lost
+  abbrev pub Turns : Search B T → Search B T → Result Bool Hopeless → Type 0
+  Turns s s' (Ok true) = Gone s s' true × Ready s'
+  Turns s s' (Ok false) = Gone s s' false × Ready s' × Fulfils s'
+  Turns s s' (Err _) = Gone s s' false × Lost s'
+
+  -- whether there was a choice to take back, whose opposite was told
+  abbrev pub Flips : Search B T → Search B T → Bool → Type 0
+  Flips s s' true = Gone s s' true × Searching s'
+  Flips s s' false = Emptied s s'
+
+  -- and one whose opposite does not clash
+  abbrev pub Retreats : Search B T → Search B T → Bool → Type 0
+  Retreats s s' true = Gone s s' true × Ready s'
+  Retreats s s' false = Emptied s s'
+
+  -- the search's answer
+  abbrev pub Decides : Search B T → Search B T → Bool → Type 0
+  Decides s s' true = Gone s s' false × Ready s' × Fulfils s'
+  Decides s s' false = Emptied s s'

@@ -3,10 +3,9 @@ ghost use Rattle.std.specs.Prelude.{◌≡◌, ℕ, List};
 ghost use Rattle.tableau.specs.Judged.{lent, Right, UnlessRefused};
 ghost use Rattle.tableau.specs.Branched.{table_refusal, Branched};
 
-use crate::judge::search;
+use crate::judge::find;
 use crate::verdict::Verdict;
 use books::book::Book;
-use classes::table::ClassTable;
 use syntax::counts::Counts;
 use syntax::numbers::atom_count;
 use syntax::types::Refusal;
@@ -55,11 +54,8 @@ pub fn find_branch<B: Book, T: BranchTable>(
     ) {
         return Err(cause);
     }
-    table.clear();
-    let mut classes = ClassTable::of(counts, table);
-    if search(book, table, trail, choices, &mut classes) {
-        Ok(Verdict::Consistent)
-    } else {
-        Ok(Verdict::Contradictory)
+    match find(book, table, trail, choices) {
+        Some(_) => Ok(Verdict::Consistent),
+        None => Ok(Verdict::Contradictory),
     }
 }

@@ -1,11 +1,9 @@
-// Keeps the classes of a branch, and looks for clashes.
-ghost use Rattle.std.specs.Prelude.{◌≡◌, ◌<◌, false, length, Decides, slice_set};
-ghost use Rattle.syntax.specs.declared.types.Mark.TheVariants.{Open};
-ghost use Rattle.syntax.specs.Numbers.{atoms};
-ghost use Rattle.semantics.specs.Branch.{Clash, ClassTable as Classes};
+// The classes of a branch, unless it clashes.
+ghost use Rattle.std.specs.Prelude.{◌≡◌, false};
 ghost use Rattle.classes.specs.Leaders.{leader_of, JoinsNone};
-ghost use Rattle.tableau.specs.Signs.{StandsIn};
+ghost use Rattle.tableau.specs.Views.{Classed, Told};
 
+use crate::types::{Hopeless, Search};
 use books::book::Book;
 use classes::classed::Classed;
 use classes::table::ClassTable;
@@ -24,50 +22,34 @@ fn joins(classes: &ClassTable, g: Ground, sign: bool) -> bool
     }
 }
 
-// Makes the classes anew, and says whether the branch clashes.
-pub(crate) fn renew<B: Book, T: BranchTable>(book: &B, table: &T, classes: &mut ClassTable) -> bool
-    ensures fits { Classes (B.Book.counts book.now) (T.BranchTable.marks table.now) (leader_of classes.new) }
-    ensures clash { Decides result (Clash (B.Book.counts book.now) (T.BranchTable.marks table.now)) }
-{
-    let counts = book.counts();
-    *classes = ClassTable::of(counts, table);
-    Classed {
-        counts,
-        table,
-        classes,
-    }
-    .clashes()
-}
-
-// The same after one atom was told on a branch that these classes fit and that did not clash.
-pub(crate) fn refresh<B: Book, T: BranchTable>(
-    book: &B,
-    table: &T,
-    classes: &mut ClassTable,
-    l: SignedAtom,
-) -> bool
-    requires below { l.atom < atoms (B.Book.counts book.now) }
-    requires inside { l.atom < length (T.BranchTable.marks table.now) }
-    requires stands { StandsIn (T.BranchTable.marks table.now) l }
-    requires fits { Classes (B.Book.counts book.now) (slice_set (T.BranchTable.marks table.now) l.atom Open) (leader_of classes.old) }
-    requires calm { Clash (B.Book.counts book.now) (slice_set (T.BranchTable.marks table.now) l.atom Open) → ⊥ }
-    ensures fits { Classes (B.Book.counts book.now) (T.BranchTable.marks table.now) (leader_of classes.new) }
-    ensures clash { Decides result (Clash (B.Book.counts book.now) (T.BranchTable.marks table.now)) }
-{
-    let counts = book.counts();
-    match atom_at(counts, l.atom as usize) {
-        Some(g) => {
-            if joins(classes, g, l.sign) {
-                renew(book, table, classes)
-            } else {
-                Classed {
-                    counts,
-                    table,
-                    classes,
-                }
-                .clashes_at(g, l.sign)
-            }
+impl<'b, 't, 's, 'c, 'm, 'n, B: Book, T: BranchTable> Search<'b, 't, 's, 'c, 'm, 'n, B, T> {
+    // The classes of the branch, read anew.
+    pub(crate) fn read_classes(&self) -> Result<ClassTable, Hopeless>
+        ensures { Classed B.Book T.BranchTable self.now result }
+    {
+        let counts = self.book.counts();
+        let classes = ClassTable::of(counts, self.table);
+        if clashes(counts, self.table, &classes) {
+            return Err(Hopeless);
         }
-        None => renew(book, table, classes),
+        Ok(classes)
+    }
+
+    // The same after one atom was told on a branch that its classes fit and that did not clash.
+    pub(crate) fn classes_with(&self, l: SignedAtom) -> Result<ClassTable, Hopeless>
+        requires { Told B.Book T.BranchTable self.now l }
+        ensures { Classed B.Book T.BranchTable self.now result }
+    {
+        let counts = self.book.counts();
+        let Some(g) = atom_at(counts, l.atom as usize) else {
+            return self.read_classes();
+        };
+        if joins(&self.classes, g, l.sign) {
+            return self.read_classes();
+        }
+        if clashes_at(counts, self.table, &self.classes, g, l.sign) {
+            return Err(Hopeless);
+        }
+        Ok(self.classes)
     }
 }

@@ -1,12 +1,9 @@
 // Judging a book.
 ghost use Rattle.std.specs.Prelude.{◌≡◌, ◌≤◌, length};
 ghost use Rattle.syntax.specs.Numbers.{atoms};
-ghost use Rattle.semantics.specs.Branch.{ClassTable as Classes};
-ghost use Rattle.classes.specs.Leaders.{leader_of};
-ghost use Rattle.tableau.specs.Signs.{Clear};
 ghost use Rattle.tableau.specs.Judged.{lent, size_refusal, Searched, Judged, Right, UnlessRefused, OneVerdict};
 
-use crate::search::decide;
+use crate::search::search;
 use crate::verdict::Verdict;
 use books::book::Book;
 use classes::classed::Classed;
@@ -41,28 +38,26 @@ fn refusal(
     None
 }
 
-// Looks for a branch, over a table where nothing stands, with the memory of two stacks.
-pub(crate) fn search<B: Book, T: BranchTable>(
+// Clears the table and looks for a branch that fulfils the book, with the memory of two stacks: its class table.
+pub(crate) fn find<B: Book, T: BranchTable>(
     book: &B,
     table: &mut T,
     trail: &mut [u16],
     choices: &mut [Choice],
-    classes: &mut ClassTable,
-) -> bool
-    requires clear { Clear (T.BranchTable.marks table.old) }
-    requires reach { atoms (B.Book.counts book.now) ≤ length (T.BranchTable.marks table.old) }
-    requires room { atoms (B.Book.counts book.now) ≤ T.BranchTable.room table.old }
-    requires trail { atoms (B.Book.counts book.now) ≤ length trail.old }
-    requires choices { atoms (B.Book.counts book.now) ≤ length choices.old }
-    requires fits { Classes (B.Book.counts book.now) (T.BranchTable.marks table.old) (leader_of classes.old) }
-    ensures searched { Searched (B.Book.counts book.now) (B.Book.clauses book.now) (T.BranchTable.marks table.new) (leader_of classes.new) result }
-    ensures reach { length (T.BranchTable.marks table.new) ≡ length (T.BranchTable.marks table.old) }
-    ensures room { T.BranchTable.room table.new ≡ T.BranchTable.room table.old }
-    ensures loan { T.BranchTable.loan table.new ≡ T.BranchTable.loan table.old }
+) -> Option<ClassTable>
+    requires reach { atoms (B.counts book.now) ≤ length (T.marks table.old) }
+    requires room { atoms (B.counts book.now) ≤ T.room table.old }
+    requires trail { atoms (B.counts book.now) ≤ length trail.old }
+    requires choices { atoms (B.counts book.now) ≤ length choices.old }
+    ensures searched { Searched (B.counts book.now) (B.clauses book.now) (T.marks table.old) (T.marks table.new) result }
+    ensures room { T.room table.new ≡ T.room table.old }
+    ensures loan { T.loan table.new ≡ T.loan table.old }
 {
+    table.clear();
+    let classes = ClassTable::of(book.counts(), table);
     let mut told = Stack::new(trail);
     let mut chosen = Stack::new(choices);
-    decide(book, table, &mut told, &mut chosen, classes)
+    search(book, table, &mut told, &mut chosen, classes)
 }
 
 // Whether some interpretation satisfies every clause of the book. If so, the table holds a branch that
@@ -90,18 +85,12 @@ pub fn judge<B: Book, T: BranchTable>(
     ) {
         return Err(cause);
     }
-    table.clear();
-    let mut classes = ClassTable::of(counts, table);
-    if search(book, table, trail, choices, &mut classes) {
-        let branch = Classed {
-            counts,
-            table,
-            classes: &classes,
-        };
-        let _ = branch.write_model(model);
-        Ok(Verdict::Consistent)
-    } else {
-        Ok(Verdict::Contradictory)
+    match find(book, table, trail, choices) {
+        Some(classes) => {
+            let _ = write_model(counts, table, &classes, model);
+            Ok(Verdict::Consistent)
+        }
+        None => Ok(Verdict::Contradictory),
     }
 }
 

@@ -1,80 +1,54 @@
 // Follows the trail: tells what each atom on it forces.
-ghost use Rattle.tableau.specs.Views.{moment, Set, Passes};
+ghost use Rattle.tableau.specs.Views.{Ready, Passes};
 
-use crate::scan::sign_at;
-use crate::sweep::sweep;
-use crate::touch::touch;
-use crate::types::{Hints, Hopeless};
-use crate::variants::spread;
+use crate::types::{Hints, Hopeless, Search};
 use books::book::Book;
-use classes::table::ClassTable;
 use syntax::numbers::atom_at;
-use tables::stack::{Choice, Stack};
 use tables::table::BranchTable;
 
-// Tells what an atom that stands forces.
-fn follow<B: Book, T: BranchTable>(
-    book: &B,
-    table: &mut T,
-    trail: &mut Stack<'_, u16>,
-    choices: &Stack<'_, Choice>,
-    classes: &mut ClassTable,
-    atom: u16,
-) -> Result<bool, Hopeless>
-    requires { Set B.Book book.now (moment T.BranchTable table.old trail.old choices.now) classes.old }
-    ensures { Passes B.Book book.now (moment T.BranchTable table.old trail.old choices.now) (moment T.BranchTable table.new trail.new choices.now) classes.new result }
-{
-    let Some(g) = atom_at(book.counts(), atom as usize) else {
-        return Ok(false);
-    };
-    match sign_at(table, atom as usize) {
-        Some(sign) => touch(book, table, trail, choices, classes, g, sign),
-        None => Ok(false),
+impl<'b, 't, 's, 'c, 'm, 'n, B: Book, T: BranchTable> Search<'b, 't, 's, 'c, 'm, 'n, B, T> {
+    // Tells what an atom that stands forces.
+    fn follow(&mut self, atom: u16) -> Result<bool, Hopeless>
+        requires { Ready B.Book T.BranchTable self.old }
+        ensures { Passes B.Book T.BranchTable self.old self.new result }
+    {
+        let Some(g) = atom_at(self.book.counts(), atom as usize) else {
+            return Ok(false);
+        };
+        match self.sign_at(atom as usize) {
+            Some(sign) => self.touch(g, sign),
+            None => Ok(false),
+        }
     }
-}
 
-// Tells what the atoms on the trail from a height on force, and what those told force, and so on.
-fn pursue<B: Book, T: BranchTable>(
-    book: &B,
-    table: &mut T,
-    trail: &mut Stack<'_, u16>,
-    choices: &Stack<'_, Choice>,
-    classes: &mut ClassTable,
-    from: usize,
-) -> Result<bool, Hopeless>
-    requires { Set B.Book book.now (moment T.BranchTable table.old trail.old choices.now) classes.old }
-    ensures { Passes B.Book book.now (moment T.BranchTable table.old trail.old choices.now) (moment T.BranchTable table.new trail.new choices.now) classes.new result }
-{
-    let mut moved = false;
-    let mut at = from;
-    while let Some(atom) = trail.at(at) {
-        moved |= follow(book, table, trail, choices, classes, atom)?;
-        at += 1;
+    // Tells what the atoms on the trail from a height on force, and what those told force, and so on.
+    fn pursue(&mut self, from: usize) -> Result<bool, Hopeless>
+        requires { Ready B.Book T.BranchTable self.old }
+        ensures { Passes B.Book T.BranchTable self.old self.new result }
+    {
+        let mut moved = false;
+        let mut at = from;
+        while let Some(atom) = self.trail.at(at) {
+            moved |= self.follow(atom)?;
+            at += 1;
+        }
+        Ok(moved)
     }
-    Ok(moved)
-}
 
-// Tells what is forced, from where the hints say.
-pub(crate) fn propagate<B: Book, T: BranchTable>(
-    book: &B,
-    table: &mut T,
-    trail: &mut Stack<'_, u16>,
-    choices: &Stack<'_, Choice>,
-    classes: &mut ClassTable,
-    hints: &mut Hints,
-) -> Result<bool, Hopeless>
-    requires { Set B.Book book.now (moment T.BranchTable table.old trail.old choices.now) classes.old }
-    ensures { Passes B.Book book.now (moment T.BranchTable table.old trail.old choices.now) (moment T.BranchTable table.new trail.new choices.now) classes.new result }
-{
-    if !hints.swept {
-        hints.swept = true;
-        return sweep(book, table, trail, choices, classes);
+    // Tells what is forced, from where the hints say.
+    pub(crate) fn propagate(&mut self, hints: &mut Hints) -> Result<bool, Hopeless>
+        requires { Ready B.Book T.BranchTable self.old }
+        ensures { Passes B.Book T.BranchTable self.old self.new result }
+    {
+        if !hints.swept {
+            hints.swept = true;
+            return self.sweep();
+        }
+        let moved = self.pursue(hints.pursued)?;
+        hints.pursued = self.trail.height();
+        if moved {
+            return Ok(true);
+        }
+        self.spread(hints)
     }
-    let from = hints.pursued;
-    let moved = pursue(book, table, trail, choices, classes, from)?;
-    hints.pursued = trail.height();
-    if moved {
-        return Ok(true);
-    }
-    spread(book, table, trail, choices, classes, hints)
 }

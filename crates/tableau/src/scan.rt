@@ -8,7 +8,7 @@ ghost use Rattle.tableau.specs.Signs.{signed_atom_of, instance};
 ghost use Rattle.tableau.specs.Instances.{names_of, Below};
 ghost use Rattle.tableau.specs.Scans.{sign_of, Evaluated, with_open};
 
-use crate::types::{FourNames, Status};
+use crate::types::{FourNames, Search, Status};
 use books::book::Book;
 use syntax::counts::Counts;
 use syntax::numbers::atom_number;
@@ -58,17 +58,6 @@ fn signed_atom(counts: Counts, names: FourNames, l: Literal) -> SignedAtom
     }
 }
 
-// The sign with which an atom stands on the branch.
-pub(crate) fn sign_at<T: BranchTable>(table: &T, atom: usize) -> Option<bool>
-    ensures { result ≡ sign_of (slice_index_or (T.marks table.now) atom Open) }
-{
-    match table.ask(atom) {
-        Ok(Mark::Yes) => Some(true),
-        Ok(Mark::No) => Some(false),
-        Ok(Mark::Open) | Err(_) => None,
-    }
-}
-
 // How an instance stands with one more open atom.
 fn opens(status: Status, l: SignedAtom) -> Status
     ensures { result ≡ with_open status l }
@@ -81,31 +70,39 @@ fn opens(status: Status, l: SignedAtom) -> Status
     }
 }
 
-// How an instance of clause i stands on the branch.
-pub(crate) fn evaluate<B: Book, T: BranchTable>(
-    book: &B,
-    table: &T,
-    i: usize,
-    names: FourNames,
-) -> Status
-    requires inside { i < length (B.Book.clauses book.now) }
-    requires below { Below (B.Book.counts book.now) names }
-    requires reaches { atoms (B.Book.counts book.now) ≤ length (T.BranchTable.marks table.now) }
-    ensures { Evaluated (T.BranchTable.marks table.now) (instance (B.Book.counts book.now) (names_of names) (slice_index_or (B.Book.clauses book.now) i [])) (instance (B.Book.counts book.now) (names_of names) (slice_index_or (B.Book.clauses book.now) i [])) result }
-{
-    let counts = book.counts();
-    let mut status = Status::Broken;
-    let mut j = 0;
-    while let Some(l) = book.literal(i, j) {
-        let atom = signed_atom(counts, names, l);
-        let sign = sign_at(table, atom.atom as usize);
-        if sign == Some(atom.sign) {
-            return Status::Fulfilled;
+impl<'b, 't, 's, 'c, 'm, 'n, B: Book, T: BranchTable> Search<'b, 't, 's, 'c, 'm, 'n, B, T> {
+    // The sign with which an atom stands on the branch.
+    pub(crate) fn sign_at(&self, atom: usize) -> Option<bool>
+        ensures { result ≡ sign_of (slice_index_or (T.marks self.now.table.now) atom Open) }
+    {
+        match self.table.ask(atom) {
+            Ok(Mark::Yes) => Some(true),
+            Ok(Mark::No) => Some(false),
+            Ok(Mark::Open) | Err(_) => None,
         }
-        if sign.is_none() {
-            status = opens(status, atom);
-        }
-        j += 1;
     }
-    status
+
+    // How an instance of clause i stands on the branch.
+    pub(crate) fn evaluate(&self, i: usize, names: FourNames) -> Status
+        requires inside { i < length (B.clauses self.now.book.now) }
+        requires below { Below (B.counts self.now.book.now) names }
+        requires reaches { atoms (B.counts self.now.book.now) ≤ length (T.marks self.now.table.now) }
+        ensures { Evaluated (T.marks self.now.table.now) (instance (B.counts self.now.book.now) (names_of names) (slice_index_or (B.clauses self.now.book.now) i [])) (instance (B.counts self.now.book.now) (names_of names) (slice_index_or (B.clauses self.now.book.now) i [])) result }
+    {
+        let counts = self.book.counts();
+        let mut status = Status::Broken;
+        let mut j = 0;
+        while let Some(l) = self.book.literal(i, j) {
+            let atom = signed_atom(counts, names, l);
+            let sign = self.sign_at(atom.atom as usize);
+            if sign == Some(atom.sign) {
+                return Status::Fulfilled;
+            }
+            if sign.is_none() {
+                status = opens(status, atom);
+            }
+            j += 1;
+        }
+        status
+    }
 }

@@ -1,5 +1,18 @@
 // What the search speaks of. No clause stands in this file, so that specs/ can name the types.
+use classes::table::ClassTable;
 use syntax::types::SignedAtom;
+use tables::stack::{Choice, Stack};
+
+// The search at a moment: the book, the branch as it stands in the table and on the trail, the choices on it, and its
+// class table. Each reference has a lifetime of its own: only so does the check cover a call of a method of it.
+#[derive(Drop)]
+pub(crate) struct Search<'b, 't, 's, 'c, 'm, 'n, B, T> {
+    pub(crate) book: &'b B,
+    pub(crate) table: &'t mut T,
+    pub(crate) trail: &'s mut Stack<'m, u16>,
+    pub(crate) choices: &'c mut Stack<'n, Choice>,
+    pub(crate) classes: ClassTable,
+}
 
 // No model agrees with the branch.
 #[derive(Clone, Copy)]

@@ -2,17 +2,14 @@
 ghost use Rattle.std.specs.Prelude.{◌≡◌, true};
 ghost use Rattle.classes.specs.Leaders.{leader_of};
 ghost use Rattle.tableau.specs.Variants.{renamed as renamed_by, OneLed};
-ghost use Rattle.tableau.specs.Views.{moment, Set, Passes};
+ghost use Rattle.tableau.specs.Views.{Ready, Passes};
 
-use crate::scan::sign_at;
 use crate::spans::bind;
-use crate::sweep::enforce;
-use crate::types::{Hints, Hopeless};
+use crate::types::{Hints, Hopeless, Search};
 use books::book::Book;
 use classes::table::ClassTable;
 use syntax::numbers::{atom_at, atom_number};
 use syntax::types::{Ground, SignedAtom};
-use tables::stack::{Choice, Stack};
 use tables::table::BranchTable;
 
 // The atom with other names.
@@ -57,48 +54,6 @@ fn occurs<B: Book>(book: &B, g: Ground) -> bool {
     (0..book.len()).any(|i| occurs_in(book, i, g))
 }
 
-// Tells the atom with other names as it stands, if those have the leaders of its own.
-fn tell_renamed<B: Book, T: BranchTable>(
-    book: &B,
-    table: &mut T,
-    trail: &mut Stack<'_, u16>,
-    choices: &Stack<'_, Choice>,
-    classes: &mut ClassTable,
-    g: Ground,
-    x: u8,
-    y: u8,
-) -> Result<bool, Hopeless>
-    requires { Set B.Book book.now (moment T.BranchTable table.old trail.old choices.now) classes.old }
-    ensures { Passes B.Book book.now (moment T.BranchTable table.old trail.old choices.now) (moment T.BranchTable table.new trail.new choices.now) classes.new result }
-{
-    if !is_led(classes, g, x, y) {
-        return Ok(false);
-    }
-    let counts = book.counts();
-    let other = renamed(g, x, y);
-    let Some(atom) = atom_number(counts, other) else {
-        return Ok(false);
-    };
-    if sign_at(table, atom).is_some() {
-        return Ok(false);
-    }
-    let Some(from) = atom_number(counts, g) else {
-        return Ok(false);
-    };
-    let Some(sign) = sign_at(table, from) else {
-        return Ok(false);
-    };
-    if !occurs(book, other) {
-        return Ok(false);
-    }
-    let l = SignedAtom {
-        atom: atom as u16,
-        sign,
-    };
-    enforce(book, table, trail, choices, classes, l)?;
-    Ok(true)
-}
-
 // Whether the name's class has another name.
 fn is_linked(classes: &ClassTable, names: u8, a: u8) -> bool {
     (0..names).any(|x| x != a && classes.leader(x) == classes.leader(a))
@@ -113,92 +68,98 @@ fn has_linked(classes: &ClassTable, names: u8, g: Ground) -> bool {
     }
 }
 
-// For each two names.
-fn tell_linked<B: Book, T: BranchTable>(
-    book: &B,
-    table: &mut T,
-    trail: &mut Stack<'_, u16>,
-    choices: &Stack<'_, Choice>,
-    classes: &mut ClassTable,
-    atom: u16,
-) -> Result<bool, Hopeless>
-    requires { Set B.Book book.now (moment T.BranchTable table.old trail.old choices.now) classes.old }
-    ensures { Passes B.Book book.now (moment T.BranchTable table.old trail.old choices.now) (moment T.BranchTable table.new trail.new choices.now) classes.new result }
-{
-    let counts = book.counts();
-    let names = counts.names();
-    let Some(g) = atom_at(counts, atom as usize) else {
-        return Ok(false);
-    };
-    if !has_linked(classes, names, g) {
-        return Ok(false);
-    }
-    let mut moved = false;
-    for k in 0..names as usize * names as usize {
-        moved |= tell_renamed(
-            book,
-            table,
-            trail,
-            choices,
-            classes,
-            g,
-            (k / names as usize) as u8,
-            (k % names as usize) as u8,
-        )?;
-    }
-    Ok(moved)
-}
-
-// For the atoms on the trail from a height on.
-fn spread_from<B: Book, T: BranchTable>(
-    book: &B,
-    table: &mut T,
-    trail: &mut Stack<'_, u16>,
-    choices: &Stack<'_, Choice>,
-    classes: &mut ClassTable,
-    from: usize,
-) -> Result<bool, Hopeless>
-    requires { Set B.Book book.now (moment T.BranchTable table.old trail.old choices.now) classes.old }
-    ensures { Passes B.Book book.now (moment T.BranchTable table.old trail.old choices.now) (moment T.BranchTable table.new trail.new choices.now) classes.new result }
-{
-    let mut moved = false;
-    let mut at = from;
-    while let Some(atom) = trail.at(at) {
-        moved |= tell_linked(book, table, trail, choices, classes, atom)?;
-        at += 1;
-    }
-    Ok(moved)
-}
-
 // How many classes there are.
 fn class_count(classes: &ClassTable, names: u8) -> usize {
     (0..names).filter(|a| classes.leader(*a) == *a).count()
 }
 
-// Tells atoms of linked names, from where the hints say; after classes were joined, from the start.
-pub(crate) fn spread<B: Book, T: BranchTable>(
-    book: &B,
-    table: &mut T,
-    trail: &mut Stack<'_, u16>,
-    choices: &Stack<'_, Choice>,
-    classes: &mut ClassTable,
-    hints: &mut Hints,
-) -> Result<bool, Hopeless>
-    requires { Set B.Book book.now (moment T.BranchTable table.old trail.old choices.now) classes.old }
-    ensures { Passes B.Book book.now (moment T.BranchTable table.old trail.old choices.now) (moment T.BranchTable table.new trail.new choices.now) classes.new result }
-{
-    let names = book.counts().names();
-    let count = class_count(classes, names);
-    let from = if count == hints.classes {
-        hints.spread
-    } else {
-        0
-    };
-    hints.classes = count;
-    if count >= names as usize {
-        return Ok(false);
+impl<'b, 't, 's, 'c, 'm, 'n, B: Book, T: BranchTable> Search<'b, 't, 's, 'c, 'm, 'n, B, T> {
+    // Tells the atom with other names as it stands, if those have the leaders of its own.
+    fn tell_renamed(&mut self, g: Ground, x: u8, y: u8) -> Result<bool, Hopeless>
+        requires { Ready B.Book T.BranchTable self.old }
+        ensures { Passes B.Book T.BranchTable self.old self.new result }
+    {
+        if !is_led(&self.classes, g, x, y) {
+            return Ok(false);
+        }
+        let counts = self.book.counts();
+        let other = renamed(g, x, y);
+        let Some(atom) = atom_number(counts, other) else {
+            return Ok(false);
+        };
+        if self.sign_at(atom).is_some() {
+            return Ok(false);
+        }
+        let Some(from) = atom_number(counts, g) else {
+            return Ok(false);
+        };
+        let Some(sign) = self.sign_at(from) else {
+            return Ok(false);
+        };
+        if !occurs(self.book, other) {
+            return Ok(false);
+        }
+        self.enforce(SignedAtom {
+            atom: atom as u16,
+            sign,
+        })?;
+        Ok(true)
     }
-    let pass = spread_from(book, table, trail, choices, classes, from);
-    hints.spread = trail.height();
-    pass
+
+    // For each two names.
+    fn tell_linked(&mut self, atom: u16) -> Result<bool, Hopeless>
+        requires { Ready B.Book T.BranchTable self.old }
+        ensures { Passes B.Book T.BranchTable self.old self.new result }
+    {
+        let counts = self.book.counts();
+        let names = counts.names();
+        let Some(g) = atom_at(counts, atom as usize) else {
+            return Ok(false);
+        };
+        if !has_linked(&self.classes, names, g) {
+            return Ok(false);
+        }
+        let mut moved = false;
+        for x in 0..names {
+            for y in 0..names {
+                moved |= self.tell_renamed(g, x, y)?;
+            }
+        }
+        Ok(moved)
+    }
+
+    // For the atoms on the trail from a height on.
+    fn spread_from(&mut self, from: usize) -> Result<bool, Hopeless>
+        requires { Ready B.Book T.BranchTable self.old }
+        ensures { Passes B.Book T.BranchTable self.old self.new result }
+    {
+        let mut moved = false;
+        let mut at = from;
+        while let Some(atom) = self.trail.at(at) {
+            moved |= self.tell_linked(atom)?;
+            at += 1;
+        }
+        Ok(moved)
+    }
+
+    // Tells atoms of linked names, from where the hints say; after classes were joined, from the start.
+    pub(crate) fn spread(&mut self, hints: &mut Hints) -> Result<bool, Hopeless>
+        requires { Ready B.Book T.BranchTable self.old }
+        ensures { Passes B.Book T.BranchTable self.old self.new result }
+    {
+        let names = self.book.counts().names();
+        let count = class_count(&self.classes, names);
+        let from = if count == hints.classes {
+            hints.spread
+        } else {
+            0
+        };
+        hints.classes = count;
+        if count >= names as usize {
+            return Ok(false);
+        }
+        let moved = self.spread_from(from);
+        hints.spread = self.trail.height();
+        moved
+    }
 }

@@ -1,41 +1,30 @@
-use Rattle.std.proofs.Common.{length, sym, refl, ap, ◌∙◌, subst, arith}
-use Rattle.syntax.specs.declared.counts.Counts.{Counts}
-use Rattle.semantics.specs.Branch.{own, ClassTable}
+use Rattle.std.proofs.Common.{length, refl, ap, ◌∙◌, subst, arith}
+use Rattle.semantics.specs.Branch.{own}
 use Rattle.semantics.proofs.Own.{own_model_lem}
 use Rattle.classes.specs.Leaders.{leader_of}
-use Rattle.tableau.specs.Signs.{Clear}
-use Rattle.tableau.proofs.Judging.{cleared_clear, cleared_length, clear_cleared, enough, no_cause, wrote}
+use Rattle.tableau.proofs.Judging.{cleared_length, enough, no_cause, wrote}
 use Rattle.tableau.proofs.judge.judge.Goals as goal
 
-pub search-requires : goal.search-requires
-search-requires g c =
+pub find-requires : goal.find-requires
+find-requires g c =
     let k = g.B.Book.counts c.args.book.now in
     let t = g.T.BranchTable in
     let table = c.args.table.now in
-    let is = c.clear.ensures in
     let none = no_cause c.counts-counts.result k c.reach.result (length (t.marks table)) c.capacity.result (t.room table) (length c.args.trail.now) (length c.args.choices.now) (length c.args.model.now) c.in_default.ensures c.counts-counts.ensures c.reach.ensures c.capacity.ensures in
     let all = enough k (length (t.marks table)) (t.room table) (length c.args.trail.now) (length c.args.choices.now) (length c.args.model.now) none in
-    record {
-      clear = subst Clear (sym is.cleared) (cleared_clear (t.marks table));
-      reach = omega (arith, all.in_reach, ap length is.cleared, cleared_length (t.marks table));
-      room = omega (arith, all.in_room, is.room);
-      trail = all.in_trail;
-      choices = all.in_choices;
-      fits = subst (λ (n : Counts). ClassTable n (t.marks c.clear.new.self) (leader_of c.of-classes.result)) c.counts-counts.ensures c.of-classes.ensures;
-    }
+    record { reach = all.in_reach; room = all.in_room; trail = all.in_trail; choices = all.in_choices }
 
-pub returns-then-search : goal.returns-then-search
-returns-then-search g c =
+pub returns-in-Some-find : goal.returns-in-Some-find
+returns-in-Some-find g c =
     let b = g.B.Book in
     let book = c.args.book.now in
     let k = b.counts book in
     let t = g.T.BranchTable in
     let table = c.args.table.now in
-    let is = c.clear.ensures in
-    let e = c.if-search.ensures in
-    let s = e.searched in
-    let ms = t.marks c.search.new.table in
-    let leader = leader_of c.search.new.classes in
+    let e = c.in-Some-find.ensures in
+    let s = e.searched.1 in
+    let ms = t.marks c.find.new.table in
+    let leader = leader_of c.in-Some-find.classes in
     let none = no_cause c.counts-counts.result k c.reach.result (length (t.marks table)) c.capacity.result (t.room table) (length c.args.trail.now) (length c.args.choices.now) (length c.args.model.now) c.in_default.ensures c.counts-counts.ensures c.reach.ensures c.capacity.ensures in
     let all = enough k (length (t.marks table)) (t.room table) (length c.args.trail.now) (length c.args.choices.now) (length c.args.model.now) none in
     let model = own_model_lem k (b.clauses book) ms leader (b.lawful book) s.classes s.no_clash s.fulfilled in
@@ -43,46 +32,26 @@ returns-then-search g c =
     record {
       judged = (
         none,
-        record {
-          reach = e.reach ∙ ap length is.cleared ∙ cleared_length (t.marks table);
-          room = e.room ∙ is.room;
-          loan = e.loan ∙ is.loan;
-          trail = c.search.auto.trail;
-          choices = c.search.auto.choices;
-          model = w.long;
-        },
-        record {
-          leader = leader;
-          classes = s.classes;
-          no_clash = s.no_clash;
-          fulfilled = s.fulfilled;
-          beyond = s.beyond;
-          model = model;
-          first = w.first;
-          rest = w.rest;
-        },
+        record { reach = e.searched.0; room = e.room; loan = e.loan; trail = c.find.auto.trail; choices = c.find.auto.choices; model = w.long },
+        record { leader = leader; classes = s.classes; no_clash = s.no_clash; fulfilled = s.fulfilled; beyond = s.beyond; model = model; first = w.first; rest = w.rest },
       );
       right = (own k ms leader, model);
       kept = tt;
     }
 
-pub returns-else-search : goal.returns-else-search
-returns-else-search g c =
-    let b = g.B.Book in
-    let book = c.args.book.now in
-    let k = b.counts book in
+pub returns-in-None : goal.returns-in-None
+returns-in-None g c =
+    let k = g.B.Book.counts c.args.book.now in
     let t = g.T.BranchTable in
     let table = c.args.table.now in
-    let is = c.clear.ensures in
-    let e = c.if-search.ensures in
+    let e = c.in-None.ensures in
     let none = no_cause c.counts-counts.result k c.reach.result (length (t.marks table)) c.capacity.result (t.room table) (length c.args.trail.now) (length c.args.choices.now) (length c.args.model.now) c.in_default.ensures c.counts-counts.ensures c.reach.ensures c.capacity.ensures in
-    let reach = e.reach ∙ ap length is.cleared ∙ cleared_length (t.marks table) in
     record {
       judged = (
         none,
-        record { reach = reach; room = e.room ∙ is.room; loan = e.loan ∙ is.loan; trail = c.search.auto.trail; choices = c.search.auto.choices; model = refl },
-        record { none = e.searched.0; clear = clear_cleared (t.marks table) (t.marks c.search.new.table) e.searched.1 reach; model = refl },
+        record { reach = ap length e.searched.0 ∙ cleared_length (t.marks table); room = e.room; loan = e.loan; trail = c.find.auto.trail; choices = c.find.auto.choices; model = refl },
+        record { none = e.searched.1; clear = e.searched.0; model = refl },
       );
-      right = e.searched.0;
+      right = e.searched.1;
       kept = tt;
     }
