@@ -21,7 +21,7 @@ use Rattle.tableau.specs.Signs.{Says, OpenIn, Modelled}
 use Rattle.tableau.specs.Branch.{State, weight}
 use Rattle.tableau.specs.Scans.{NoModel}
 use Rattle.tableau.specs.Turns.{Put, Chosen}
-use Rattle.tableau.specs.Views.{moment, Same, ModelsOf, Searching, Ready, Lost, Follows, Classed, Told, weight_of, Falls, Gone, Tries}
+use Rattle.tableau.specs.Views.{moment, Same, ModelsOf, Searching, Ready, Lost, Follows, ClassesRead, Told, weight_of, Falls, Gone, Tries}
 use Rattle.tableau.proofs.States.{put_stands, put_back, put_length, reaches, forces, forced_step, forced_lighter, chosen_step, chosen_lighter}
 
 -- a model's valuation that agrees with the marks: the model agrees with the branch
@@ -89,12 +89,12 @@ module _ {B T : Type 0} (b : BookGhosts B) (t : TableGhosts T) where
 
   -- and the classes read
   module _ (s s' : Search B T) (told : Gone b t s s' true × Searching b t s') where
-    pub tried_ok : (k : ClassTable) → Classed b t s' (Ok k) → Tries b t s (record s' { classes = k }) (Ok tt)
+    pub tried_ok : (k : ClassTable) → ClassesRead b t s' (Ok k) → Tries b t s (record s' { classes = k }) (Ok tt)
     tried_ok k h = (
       record { same = record { book = told.0.same.book; table = told.0.same.table; trail = told.0.same.trail; choices = told.0.same.choices }; frame = told.0.frame; falls = told.0.falls },
       record { state = told.1; calm = h.1; fits = h.0 },
     )
 
-    pub tried_err : (e : Hopeless) → Classed b t s' (Err e) → (r : Result Unit Hopeless) → IsErr r → Tries b t s s' r
+    pub tried_err : (e : Hopeless) → ClassesRead b t s' (Err e) → (r : Result Unit Hopeless) → IsErr r → Tries b t s s' r
     tried_err e h (Ok u) i = grind arith
     tried_err e h (Err f) i = (record { same = told.0.same; frame = told.0.frame; falls = omega (arith, told.0.falls) }, clash_lost s' told.1 h)

@@ -68,9 +68,9 @@ module _ {B T : Type 0} (b : BookGhosts B) (t : TableGhosts T) where
   Fulfils s = Fulfilled (b.counts s.book.now) (b.clauses s.book.now) (t.marks s.table.now)
 
   -- what was read of the classes: they fit, and nothing clashes; or something does
-  abbrev pub Classed : Search B T → Result ClassTable Hopeless → Type 0
-  Classed s (Ok k) = Classes (b.counts s.book.now) (t.marks s.table.now) (leader_of k) × (Clash (b.counts s.book.now) (t.marks s.table.now) → ⊥)
-  Classed s (Err _) = Clash (b.counts s.book.now) (t.marks s.table.now)
+  abbrev pub ClassesRead : Search B T → Result ClassTable Hopeless → Type 0
+  ClassesRead s (Ok k) = Classes (b.counts s.book.now) (t.marks s.table.now) (leader_of k) × (Clash (b.counts s.book.now) (t.marks s.table.now) → ⊥)
+  ClassesRead s (Err _) = Clash (b.counts s.book.now) (t.marks s.table.now)
 
   -- the signed atom was told on a branch that did not clash and that the class table fits
   pub record Told (s : Search B T) (l : SignedAtom) : Type 0 where

@@ -1,7 +1,7 @@
 // The classes of a branch, unless it clashes.
 ghost use Rattle.std.specs.Prelude.{◌≡◌, false};
 ghost use Rattle.classes.specs.Leaders.{leader_of, JoinsNone};
-ghost use Rattle.tableau.specs.Views.{Classed, Told};
+ghost use Rattle.tableau.specs.Views.{ClassesRead, Told};
 
 use crate::types::{Hopeless, Search};
 use books::book::Book;
@@ -25,11 +25,16 @@ fn joins(classes: &ClassTable, g: Ground, sign: bool) -> bool
 impl<'b, 't, 's, 'c, 'm, 'n, B: Book, T: BranchTable> Search<'b, 't, 's, 'c, 'm, 'n, B, T> {
     // The classes of the branch, read anew.
     pub(crate) fn read_classes(&self) -> Result<ClassTable, Hopeless>
-        ensures { Classed B.Book T.BranchTable self.now result }
+        ensures { ClassesRead B.Book T.BranchTable self.now result }
     {
         let counts = self.book.counts();
         let classes = ClassTable::of(counts, self.table);
-        if clashes(counts, self.table, &classes) {
+        let branch = Classed {
+            counts,
+            table: self.table,
+            classes: &classes,
+        };
+        if branch.clashes() {
             return Err(Hopeless);
         }
         Ok(classes)
@@ -38,7 +43,7 @@ impl<'b, 't, 's, 'c, 'm, 'n, B: Book, T: BranchTable> Search<'b, 't, 's, 'c, 'm,
     // The same after one atom was told on a branch that its classes fit and that did not clash.
     pub(crate) fn classes_with(&self, l: SignedAtom) -> Result<ClassTable, Hopeless>
         requires { Told B.Book T.BranchTable self.now l }
-        ensures { Classed B.Book T.BranchTable self.now result }
+        ensures { ClassesRead B.Book T.BranchTable self.now result }
     {
         let counts = self.book.counts();
         let Some(g) = atom_at(counts, l.atom as usize) else {
@@ -47,7 +52,12 @@ impl<'b, 't, 's, 'c, 'm, 'n, B: Book, T: BranchTable> Search<'b, 't, 's, 'c, 'm,
         if joins(&self.classes, g, l.sign) {
             return self.read_classes();
         }
-        if clashes_at(counts, self.table, &self.classes, g, l.sign) {
+        let branch = Classed {
+            counts,
+            table: self.table,
+            classes: &self.classes,
+        };
+        if branch.clashes_at(g, l.sign) {
             return Err(Hopeless);
         }
         Ok(self.classes)

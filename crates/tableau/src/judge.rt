@@ -87,7 +87,12 @@ pub fn judge<B: Book, T: BranchTable>(
     }
     match find(book, table, trail, choices) {
         Some(classes) => {
-            let _ = write_model(counts, table, &classes, model);
+            let branch = Classed {
+                counts,
+                table,
+                classes: &classes,
+            };
+            let _ = branch.write_model(model);
             Ok(Verdict::Consistent)
         }
         None => Ok(Verdict::Contradictory),
