@@ -2,7 +2,7 @@
 ghost use Rattle.std.specs.Prelude.{◌≡◌};
 ghost use Rattle.syntax.specs.Refusals.{answer, UnlessRefused};
 ghost use Rattle.tables.specs.Spaces.{SameMemory};
-ghost use Rattle.tableau.specs.Judged.{lent_in};
+ghost use Rattle.tableau.specs.Judged.{lent};
 ghost use Rattle.comparison.specs.Compared.{compare_refusal, Comparable, Weighed, Compared};
 
 use crate::answer::Comparison;
@@ -20,7 +20,7 @@ fn check<F: Book, S: Book, T: BranchTable>(
     space: &Space<'_, T>,
     model: &[u8],
 ) -> Result<(), Refusal>
-    ensures { result ≡ answer (compare_refusal (F.counts first.now) (S.counts second.now) (F.clauses first.now) (S.clauses second.now) (lent_in T.BranchTable space.now model.now)) }
+    ensures { result ≡ answer (compare_refusal (F.counts first.now) (S.counts second.now) (F.clauses first.now) (S.clauses second.now) (lent T.BranchTable space.now model.now)) }
 {
     let counts = first.counts();
     if counts != second.counts() {
@@ -43,9 +43,9 @@ fn weigh<F: Book, S: Book, T: BranchTable>(
     space: &mut Space<'_, T>,
     model: &mut [u8],
 ) -> Comparison
-    requires forth { Comparable (F.counts first.now) (S.counts second.now) (F.clauses first.now) (lent_in T.BranchTable space.old model.old) }
-    requires back { Comparable (S.counts second.now) (F.counts first.now) (S.clauses second.now) (lent_in T.BranchTable space.old model.old) }
-    ensures weighed { Weighed (F.counts first.now) (F.clauses first.now) (S.clauses second.now) (lent_in T.BranchTable space.old model.old) (lent_in T.BranchTable space.new model.new) result }
+    requires forth { Comparable (F.counts first.now) (S.counts second.now) (F.clauses first.now) (lent T.BranchTable space.old model.old) }
+    requires back { Comparable (S.counts second.now) (F.counts first.now) (S.clauses second.now) (lent T.BranchTable space.old model.old) }
+    ensures weighed { Weighed (F.counts first.now) (F.clauses first.now) (S.clauses second.now) (lent T.BranchTable space.old model.old) (lent T.BranchTable space.new model.new) result }
     ensures memory { SameMemory space.old space.new }
 {
     if parts(first, second, space, model) {
@@ -67,7 +67,7 @@ pub fn compare<F: Book, S: Book, T: BranchTable>(
     space: &mut Space<'_, T>,
     model: &mut [u8],
 ) -> Result<Comparison, Refusal>
-    ensures compared { Compared (F.counts first.now) (S.counts second.now) (F.clauses first.now) (S.clauses second.now) (lent_in T.BranchTable space.old model.old) (lent_in T.BranchTable space.new model.new) result }
+    ensures compared { Compared (F.counts first.now) (S.counts second.now) (F.clauses first.now) (S.clauses second.now) (lent T.BranchTable space.old model.old) (lent T.BranchTable space.new model.new) result }
     ensures kept { UnlessRefused space.old space.new result }
     ensures memory { SameMemory space.old space.new }
 {

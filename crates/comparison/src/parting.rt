@@ -7,7 +7,7 @@ ghost use Rattle.semantics.specs.Suppositions.{denials};
 ghost use Rattle.books.specs.Suppositions.{own_of, counts_with, clauses_with};
 ghost use Rattle.instances.specs.Assignments.{names_of};
 ghost use Rattle.tables.specs.Spaces.{SameMemory};
-ghost use Rattle.tableau.specs.Judged.{lent_in};
+ghost use Rattle.tableau.specs.Judged.{lent};
 ghost use Rattle.comparison.specs.Compared.{Comparable, Parts, Follows};
 
 use crate::words::stands_in;
@@ -44,15 +44,15 @@ fn parts_at<F: Book, S: Book, T: BranchTable>(
     space: &mut Space<'_, T>,
     model: &mut [u8],
 ) -> bool
-    requires fine { Comparable (F.counts one.now) (S.counts other.now) (F.clauses one.now) (lent_in T.BranchTable space.old model.old) }
+    requires fine { Comparable (F.counts one.now) (S.counts other.now) (F.clauses one.now) (lent T.BranchTable space.old model.old) }
     requires inside { i < length (S.clauses other.now) }
     requires assigns { Assigns (S.counts other.now) (names_of names) }
-    ensures parted { Parts (F.counts one.now) (F.clauses one.now) (S.clauses other.now) (Contradictory (F.counts one.now) (F.clauses one.now ++ denials (names_of names) (slice_index_or (S.clauses other.now) i []))) (lent_in T.BranchTable space.old model.old) (lent_in T.BranchTable space.new model.new) result }
+    ensures parted { Parts (F.counts one.now) (F.clauses one.now) (S.clauses other.now) (Contradictory (F.counts one.now) (F.clauses one.now ++ denials (names_of names) (slice_index_or (S.clauses other.now) i []))) (lent T.BranchTable space.old model.old) (lent T.BranchTable space.new model.new) result }
     ensures memory { SameMemory space.old space.new }
 {
     let mut layer = Supposition::over(one);
     deny(&mut layer, other, i, names);
-    is_consistent(judge(&layer, space.table, space.trail, space.choices, model))
+    is_consistent(judge(&layer, space, model))
 }
 
 // The same over the instances of clause i.
@@ -63,9 +63,9 @@ fn parts_instances<F: Book, S: Book, T: BranchTable>(
     space: &mut Space<'_, T>,
     model: &mut [u8],
 ) -> bool
-    requires fine { Comparable (F.counts one.now) (S.counts other.now) (F.clauses one.now) (lent_in T.BranchTable space.old model.old) }
+    requires fine { Comparable (F.counts one.now) (S.counts other.now) (F.clauses one.now) (lent T.BranchTable space.old model.old) }
     requires inside { i < length (S.clauses other.now) }
-    ensures parted { Parts (F.counts one.now) (F.clauses one.now) (S.clauses other.now) (Follows (F.counts one.now) (F.clauses one.now) (slice_index_or (S.clauses other.now) i [])) (lent_in T.BranchTable space.old model.old) (lent_in T.BranchTable space.new model.new) result }
+    ensures parted { Parts (F.counts one.now) (F.clauses one.now) (S.clauses other.now) (Follows (F.counts one.now) (F.clauses one.now) (slice_index_or (S.clauses other.now) i [])) (lent T.BranchTable space.old model.old) (lent T.BranchTable space.new model.new) result }
     ensures memory { SameMemory space.old space.new }
 {
     let ranges = Ranges::of(other, i);
@@ -85,9 +85,9 @@ fn parts_clause<F: Book, S: Book, T: BranchTable>(
     space: &mut Space<'_, T>,
     model: &mut [u8],
 ) -> bool
-    requires fine { Comparable (F.counts one.now) (S.counts other.now) (F.clauses one.now) (lent_in T.BranchTable space.old model.old) }
+    requires fine { Comparable (F.counts one.now) (S.counts other.now) (F.clauses one.now) (lent T.BranchTable space.old model.old) }
     requires inside { i < length (S.clauses other.now) }
-    ensures parted { Parts (F.counts one.now) (F.clauses one.now) (S.clauses other.now) (Follows (F.counts one.now) (F.clauses one.now) (slice_index_or (S.clauses other.now) i [])) (lent_in T.BranchTable space.old model.old) (lent_in T.BranchTable space.new model.new) result }
+    ensures parted { Parts (F.counts one.now) (F.clauses one.now) (S.clauses other.now) (Follows (F.counts one.now) (F.clauses one.now) (slice_index_or (S.clauses other.now) i [])) (lent T.BranchTable space.old model.old) (lent T.BranchTable space.new model.new) result }
     ensures memory { SameMemory space.old space.new }
 {
     !stands_in(one, other, i) && parts_instances(one, other, i, space, model)
@@ -100,8 +100,8 @@ pub(crate) fn parts<F: Book, S: Book, T: BranchTable>(
     space: &mut Space<'_, T>,
     model: &mut [u8],
 ) -> bool
-    requires { Comparable (F.counts one.now) (S.counts other.now) (F.clauses one.now) (lent_in T.BranchTable space.old model.old) }
-    ensures parted { Parts (F.counts one.now) (F.clauses one.now) (S.clauses other.now) (Inside (F.counts one.now) (F.clauses one.now) (S.clauses other.now)) (lent_in T.BranchTable space.old model.old) (lent_in T.BranchTable space.new model.new) result }
+    requires { Comparable (F.counts one.now) (S.counts other.now) (F.clauses one.now) (lent T.BranchTable space.old model.old) }
+    ensures parted { Parts (F.counts one.now) (F.clauses one.now) (S.clauses other.now) (Inside (F.counts one.now) (F.clauses one.now) (S.clauses other.now)) (lent T.BranchTable space.old model.old) (lent T.BranchTable space.new model.new) result }
     ensures memory { SameMemory space.old space.new }
 {
     for i in 0..other.len() {

@@ -5,7 +5,7 @@ ghost use Rattle.syntax.specs.Lawful.{GroundLiteral};
 ghost use Rattle.syntax.specs.Refusals.{answer, UnlessRefused};
 ghost use Rattle.books.specs.Suppositions.{unit, counts_with, clauses_with};
 ghost use Rattle.tables.specs.Spaces.{SameMemory};
-ghost use Rattle.tableau.specs.Judged.{lent_in, Kept};
+ghost use Rattle.tableau.specs.Judged.{lent, Kept};
 ghost use Rattle.questions.specs.Asked.{sameness_literal, of_both, ask_refusal, Askable, SettledWith, Asked, AskedNames};
 
 use crate::answers::{Certainty, Sameness};
@@ -20,7 +20,7 @@ use tables::table::BranchTable;
 
 // Whether the question can be put.
 fn check<B: Book, T: BranchTable>(book: &B, l: Literal, space: &Space<'_, T>) -> Result<(), Refusal>
-    ensures { result ≡ answer (ask_refusal (B.counts book.now) (B.clauses book.now) l (lent_in T.BranchTable space.now [])) }
+    ensures { result ≡ answer (ask_refusal (B.counts book.now) (B.clauses book.now) l (lent T.BranchTable space.now [])) }
 {
     let counts = book.counts();
     if !is_ground_literal(counts, l) {
@@ -47,17 +47,12 @@ fn with_literal<B: Book>(book: B, l: Literal) -> Supposition<B>
 
 // Whether the book and the literal together have a model.
 fn has_model_with<B: Book, T: BranchTable>(book: &B, l: Literal, space: &mut Space<'_, T>) -> bool
-    requires { Askable (B.counts book.now) (B.clauses book.now) l (lent_in T.BranchTable space.old []) }
+    requires { Askable (B.counts book.now) (B.clauses book.now) l (lent T.BranchTable space.old []) }
     ensures right { Decides result (Consistent (B.counts book.now) (B.clauses book.now ++ unit l ∷ [])) }
-    ensures kept { Kept (lent_in T.BranchTable space.old []) (lent_in T.BranchTable space.new []) }
+    ensures kept { Kept (lent T.BranchTable space.old []) (lent T.BranchTable space.new []) }
     ensures memory { SameMemory space.old space.new }
 {
-    is_consistent(find_branch(
-        &with_literal(book, l),
-        space.table,
-        space.trail,
-        space.choices,
-    ))
+    is_consistent(find_branch(&with_literal(book, l), space))
 }
 
 // The answer where the book with the literal, and with its denial, has a model or not.
@@ -74,8 +69,8 @@ fn certainty(with: bool, without: bool) -> Certainty
 
 // Settles a ground literal, and clears the table.
 fn settle<B: Book, T: BranchTable>(book: &B, l: Literal, space: &mut Space<'_, T>) -> Certainty
-    requires { Askable (B.counts book.now) (B.clauses book.now) l (lent_in T.BranchTable space.old []) }
-    ensures settled { SettledWith (B.counts book.now) (B.clauses book.now) l (lent_in T.BranchTable space.old []) (lent_in T.BranchTable space.new []) result }
+    requires { Askable (B.counts book.now) (B.clauses book.now) l (lent T.BranchTable space.old []) }
+    ensures settled { SettledWith (B.counts book.now) (B.clauses book.now) l (lent T.BranchTable space.old []) (lent T.BranchTable space.new []) result }
     ensures memory { SameMemory space.old space.new }
 {
     let with = has_model_with(book, l, space);
@@ -92,7 +87,7 @@ pub fn holds<B: Book, T: BranchTable>(
     l: Literal,
     space: &mut Space<'_, T>,
 ) -> Result<Certainty, Refusal>
-    ensures asked { (model : List ℕ) → Asked (B.counts book.now) (B.clauses book.now) l (lent_in T.BranchTable space.old model) (lent_in T.BranchTable space.new model) result }
+    ensures asked { (model : List ℕ) → Asked (B.counts book.now) (B.clauses book.now) l (lent T.BranchTable space.old model) (lent T.BranchTable space.new model) result }
     ensures kept { UnlessRefused space.old space.new result }
     ensures memory { SameMemory space.old space.new }
 {
@@ -118,7 +113,7 @@ pub fn same<B: Book, T: BranchTable>(
     b: u8,
     space: &mut Space<'_, T>,
 ) -> Result<Sameness, Refusal>
-    ensures asked { (model : List ℕ) → AskedNames (B.counts book.now) (B.clauses book.now) a b (lent_in T.BranchTable space.old model) (lent_in T.BranchTable space.new model) result }
+    ensures asked { (model : List ℕ) → AskedNames (B.counts book.now) (B.clauses book.now) a b (lent T.BranchTable space.old model) (lent T.BranchTable space.new model) result }
     ensures kept { UnlessRefused space.old space.new result }
     ensures memory { SameMemory space.old space.new }
 {

@@ -2,7 +2,7 @@
 ghost use Rattle.std.specs.Prelude.{◌≡◌, map};
 ghost use Rattle.books.specs.Working.{standing_of};
 ghost use Rattle.tables.specs.Spaces.{SameMemory};
-ghost use Rattle.tableau.specs.Judged.{lent_in};
+ghost use Rattle.tableau.specs.Judged.{lent};
 ghost use Rattle.runs.specs.Runs.{meant, Called};
 ghost use Rattle.runs.specs.Laws.{Performed};
 
@@ -23,13 +23,13 @@ fn act<'a, B: Book, T: BranchTable>(
     model: &mut [u8],
 ) -> Answer
     ensures counts { book.new.counts ≡ book.old.counts }
-    ensures called { Called book.old.counts (standing_of book.old) (lent_in T.BranchTable space.old model.old) (meant B.Book call.entry) result (standing_of book.new) (lent_in T.BranchTable space.new model.new) }
+    ensures called { Called book.old.counts (standing_of book.old) (lent T.BranchTable space.old model.old) (meant B.Book call.entry) result (standing_of book.new) (lent T.BranchTable space.new model.new) }
     ensures memory { SameMemory space.old space.new }
 {
     match call {
         Call::Enter(literals) => Answer::Changed(book.enter(literals)),
         Call::Strike(k) => Answer::Changed(book.strike(k)),
-        Call::Judge => Answer::Judged(judge(book, space.table, space.trail, space.choices, model)),
+        Call::Judge => Answer::Judged(judge(book, space, model)),
         Call::Same(a, b) => Answer::Same(same(book, a, b, space)),
         Call::Holds(l) => Answer::Holds(holds(book, l, space)),
         Call::CompareFirst(other) => Answer::Compared(compare(book, other, space, model)),
@@ -46,7 +46,7 @@ pub fn perform<'a, B: Book, T: BranchTable>(
     model: &mut [u8],
     journal: &mut [Answer],
 ) -> usize
-    ensures performed { Performed book.old.counts (standing_of book.old) (map (meant B.Book) calls.now) (lent_in T.BranchTable space.old model.old) journal.old result book.new.counts (standing_of book.new) (lent_in T.BranchTable space.new model.new) journal.new }
+    ensures performed { Performed book.old.counts (standing_of book.old) (map (meant B.Book) calls.now) (lent T.BranchTable space.old model.old) journal.old result book.new.counts (standing_of book.new) (lent T.BranchTable space.new model.new) journal.new }
     ensures memory { SameMemory space.old space.new }
 {
     let many = calls.len().min(journal.len());

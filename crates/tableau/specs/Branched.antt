@@ -7,18 +7,12 @@ use Rattle.syntax.specs.Numbers.{atoms}
 use Rattle.syntax.specs.Refusals.{first_of}
 use Rattle.semantics.specs.Meaning.{Clause, Model}
 use Rattle.semantics.specs.Branch.{own}
+use Rattle.tables.specs.Lent.{table_refusal}
 use Rattle.tableau.specs.declared.verdict.Verdict.{Verdict}
 use Rattle.tableau.specs.declared.verdict.Verdict.TheVariants as verdict
 use Rattle.tableau.specs.Judged.{Lent, Kept, BranchFound, Emptied}
 
--- why it is refused, if it is, the topmost cause first: the table's reach or capacity is below A; a stack has memory for fewer than A
--- entries
-abbrev pub table_refusal : Counts → (reach room trail choices : ℕ) → Option Refusal
-table_refusal c reach room trail choices = first_of (
-    (nat_lt reach (atoms c) || nat_lt room (atoms c), TableSmall)
-    ∷ (nat_lt trail (atoms c) || nat_lt choices (atoms c), StackSmall)
-    ∷ [])
-
+-- why it is refused, if it is
 abbrev pub branch_refusal : Counts → Lent → Option Refusal
 branch_refusal c m = table_refusal c (length m.marks) m.room (length m.trail) (length m.choices)
 

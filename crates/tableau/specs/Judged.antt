@@ -31,13 +31,15 @@ pub record Lent : Type 0 where
   pub model : List ℕ
 
 -- the same as the code holds it; t: the ghost members of the table's type
-abbrev pub lent : {T : Type 0} → TableGhosts T → T → List ℕ → List Choice → List ℕ → Lent
-lent t table trail choices model =
-    record { marks = t.marks table; room = t.room table; loan = t.loan table; trail = trail; choices = choices; model = model }
-
--- the same of a space and the model memory
-abbrev pub lent_in : {T : Type 0} → TableGhosts T → Space T → List ℕ → Lent
-lent_in t space model = lent t space.table.now space.trail.now space.choices.now model
+abbrev pub lent : {T : Type 0} → TableGhosts T → Space T → List ℕ → Lent
+lent t space model = record {
+  marks = t.marks space.table.now;
+  room = t.room space.table.now;
+  loan = t.loan space.table.now;
+  trail = space.trail.now;
+  choices = space.choices.now;
+  model = model;
+}
 
 -- why judging is refused, if it is, the topmost cause first: the table's reach or capacity is below A; a stack has memory for fewer
 -- than A entries; the model memory is shorter than A
@@ -89,11 +91,6 @@ abbrev pub Right : Counts → List Clause → Result Verdict Refusal → Type 0
 Right c clauses (Err e) = Unit {0}
 Right c clauses (Ok verdict.Consistent) = Consistent c clauses
 Right c clauses (Ok verdict.Contradictory) = Consistent c clauses → ⊥
-
--- a refused call leaves x as it was
-abbrev pub UnlessRefused : {X : Type 0} → X → X → Result Verdict Refusal → Type 0
-UnlessRefused x y (Ok _) = Unit {0}
-UnlessRefused x y (Err _) = y ≡ x
 
 -- two answers to one call are equal
 abbrev pub OneVerdict : Type 0

@@ -1,41 +1,35 @@
 // Judging a book.
 ghost use Rattle.std.specs.Prelude.{◌≡◌, ◌≤◌, length};
 ghost use Rattle.syntax.specs.Numbers.{atoms};
-ghost use Rattle.tableau.specs.Judged.{lent, size_refusal, Searched, Judged, Right, UnlessRefused, OneVerdict};
+ghost use Rattle.syntax.specs.Refusals.{answer, UnlessRefused};
+ghost use Rattle.tables.specs.Spaces.{SameMemory};
+ghost use Rattle.tableau.specs.Judged.{lent, judge_refusal, Searched, Judged, Right, OneVerdict};
 
 use crate::search::search;
 use crate::verdict::Verdict;
 use books::book::Book;
 use classes::classed::Classed;
 use classes::table::ClassTable;
-use syntax::counts::Counts;
 use syntax::numbers::atom_count;
 use syntax::types::Refusal;
+use tables::space::Space;
 use tables::stack::{Choice, Stack};
 use tables::table::BranchTable;
 
-// Why what is lent does not do, if so.
-fn refusal(
-    counts: Counts,
-    reach: usize,
-    room: usize,
-    trail: usize,
-    choices: usize,
-    model: usize,
-) -> Option<Refusal>
-    ensures { result ≡ size_refusal counts reach room trail choices model }
+// Whether what is lent does.
+fn check<B: Book, T: BranchTable>(
+    book: &B,
+    space: &Space<'_, T>,
+    model: &[u8],
+) -> Result<(), Refusal>
+    ensures { result ≡ answer (judge_refusal (B.counts book.now) (lent T.BranchTable space.now model.now)) }
 {
-    let count = atom_count(counts);
-    if reach < count || room < count {
-        return Some(Refusal::TableSmall);
+    let counts = book.counts();
+    space.check_room(counts)?;
+    if model.len() < atom_count(counts) {
+        return Err(Refusal::MemoryShort);
     }
-    if trail < count || choices < count {
-        return Some(Refusal::StackSmall);
-    }
-    if model < count {
-        return Some(Refusal::MemoryShort);
-    }
-    None
+    Ok(())
 }
 
 // Clears the table and looks for a branch that fulfils the book, with the memory of two stacks: its class table.
@@ -65,31 +59,20 @@ pub(crate) fn find<B: Book, T: BranchTable>(
 // is clear. A is the number of the book's ground atoms.
 pub fn judge<B: Book, T: BranchTable>(
     book: &B,
-    table: &mut T,
-    trail: &mut [u16],
-    choices: &mut [Choice],
+    space: &mut Space<'_, T>,
     model: &mut [u8],
 ) -> Result<Verdict, Refusal>
-    ensures judged { Judged (B.Book.counts book.now) (B.Book.clauses book.now) (lent T.BranchTable table.old trail.old choices.old model.old) (lent T.BranchTable table.new trail.new choices.new model.new) result }
-    ensures right { Right (B.Book.counts book.now) (B.Book.clauses book.now) result }
-    ensures kept { UnlessRefused table.old table.new result }
+    ensures judged { Judged (B.counts book.now) (B.clauses book.now) (lent T.BranchTable space.old model.old) (lent T.BranchTable space.new model.new) result }
+    ensures right { Right (B.counts book.now) (B.clauses book.now) result }
+    ensures kept { UnlessRefused space.old space.new result }
+    ensures memory { SameMemory space.old space.new }
 {
-    let counts = book.counts();
-    if let Some(cause) = refusal(
-        counts,
-        table.reach(),
-        table.capacity(),
-        trail.len(),
-        choices.len(),
-        model.len(),
-    ) {
-        return Err(cause);
-    }
-    match find(book, table, trail, choices) {
+    check(book, space, model)?;
+    match find(book, space.table, space.trail, space.choices) {
         Some(classes) => {
             let branch = Classed {
-                counts,
-                table,
+                counts: book.counts(),
+                table: space.table,
                 classes: &classes,
             };
             let _ = branch.write_model(model);
