@@ -8,6 +8,7 @@ use Rattle.syntax.specs.declared.types.Ground.TheVariants.{Same, Prop, Rel}
 use Rattle.syntax.specs.declared.types.Refusal.{Refusal}
 use Rattle.syntax.specs.declared.counts.Counts.{Counts}
 use Rattle.syntax.specs.Numbers.{atoms, number_of}
+use Rattle.syntax.specs.Refusals.{answer}
 use Rattle.semantics.specs.Meaning.{Clause}
 use Rattle.semantics.specs.Bytes.{BytesOf}
 use Rattle.semantics.specs.Branch.{Clash, same_no, prop_both, rel_both, ClassTable, own}
@@ -159,12 +160,10 @@ one_verdict c clauses m m' m'' (Ok Contrary) (Ok Contrary) p q = refl
 one_verdict c clauses m m' m'' (Ok Consistent) (Ok Contrary) p q = absurd (q.2.none (_, p.2.model))
 one_verdict c clauses m m' m'' (Ok Contrary) (Ok Consistent) p q = absurd (p.2.none (_, q.2.model))
 
--- no cause of refusal, at what was read of the book and the table
-pub no_cause :
-    (n k : Counts) (reach reach' room room' trail choices model : ℕ) → None ≡ size_refusal n reach room trail choices model →
-    n ≡ k → reach ≡ reach' → room ≡ room' → size_refusal k reach' room' trail choices model ≡ None
-no_cause n k reach reach' room room' trail choices model e en er eo =
-    sym (e ∙ ap (λ x. size_refusal x reach room trail choices model) en ∙ ap (λ x. size_refusal k x room trail choices model) er ∙ ap (λ x. size_refusal k reach' x trail choices model) eo)
+-- what was not refused had no cause
+pub done_none : (o : Option Refusal) (u : Unit) → Ok u ≡ answer o → o ≡ None
+done_none None u e = refl
+done_none (Some f) u e = grind arith
 
 -- the own model was written
 pub record Wrote (c : Counts) (ms : List Mark) (leader : ℕ → ℕ) (before after : List ℕ) : Type 0 where

@@ -9,6 +9,7 @@ use tableau::judge::judge;
 use tableau::verdict::Verdict;
 use tables::listed::ListedTable;
 use tables::packed::PackedTable;
+use tables::space::Space;
 use tables::stack::Choice;
 use tables::table::BranchTable;
 
@@ -48,16 +49,12 @@ fn judge_with<B: Book, T: BranchTable>(
         sign: false,
     }; 64];
     let mut model = [7u8; 64];
-    let low = if entries < 64 { entries } else { 64 };
-    let high = if more < 64 { more } else { 64 };
-    let long = if bytes < 64 { bytes } else { 64 };
-    judge(
-        book,
+    let mut space = Space {
         table,
-        &mut trail[..low],
-        &mut choices[..high],
-        &mut model[..long],
-    )
+        trail: &mut trail[..entries.min(64)],
+        choices: &mut choices[..more.min(64)],
+    };
+    judge(book, &mut space, &mut model[..bytes.min(64)])
 }
 
 fn at_packed<B: Book>(book: &B) -> Result<Verdict, Refusal> {
@@ -71,8 +68,7 @@ fn at_listed<B: Book>(book: &B, entries: usize) -> Result<Verdict, Refusal> {
         atom: 0,
         sign: false,
     }; 64];
-    let count = if entries < 64 { entries } else { 64 };
-    let mut table = ListedTable::new(&mut rows[..count]);
+    let mut table = ListedTable::new(&mut rows[..entries.min(64)]);
     judge_with(book, &mut table, 64, 64, 64)
 }
 
@@ -215,15 +211,20 @@ fn model(rt: HostRuntime) -> Result<(), Fail> {
         atom: 0,
         sign: false,
     }; 6];
+    let mut space = Space {
+        table: &mut table,
+        trail: &mut trail,
+        choices: &mut choices,
+    };
     let mut model = [7u8; 8];
     assert_eq!(rt;
-        judge(&book, &mut table, &mut trail, &mut choices, &mut model),
+        judge(&book, &mut space, &mut model),
         Ok(Verdict::Consistent)
     );
     assert!(rt; model == [1, 0, 0, 1, 0, 1, 7, 7]);
     book.enter(&[prop(false, 0, Term::Name(1))])?;
     assert_eq!(rt;
-        judge(&book, &mut table, &mut trail, &mut choices, &mut model),
+        judge(&book, &mut space, &mut model),
         Ok(Verdict::Contradictory)
     );
     assert!(rt; model == [1, 0, 0, 1, 0, 1, 7, 7]);
