@@ -2,7 +2,6 @@ pub mod Judged
 pub mod Branched
 pub mod Signs
 pub mod Branch
-pub mod Instances
 pub mod Scans
 pub mod Turns
 pub mod Views

@@ -5,13 +5,13 @@ use Rattle.syntax.specs.declared.types.Mark.{Mark}
 use Rattle.syntax.specs.declared.types.Mark.TheVariants.{Yes, No, Open}
 use Rattle.syntax.specs.declared.counts.Counts.{Counts}
 use Rattle.syntax.specs.Numbers.{atoms}
-use Rattle.semantics.specs.Meaning.{Clause}
+use Rattle.semantics.specs.Meaning.{Clause, Assignment, Assigns}
+use Rattle.semantics.specs.Branch.{SomeStands}
 use Rattle.syntax.specs.declared.types.SignedAtom.{SignedAtom}
 use Rattle.tableau.specs.declared.types.Status.{Status}
 use Rattle.tableau.specs.declared.types.Status.TheVariants.{Fulfilled, Broken, Forced, Loose}
 use Rattle.tableau.specs.declared.types.Hopeless.{Hopeless}
-use Rattle.tableau.specs.Signs.{Valuation, Holds, Agrees, SomeOf, StandsIn, DeniedIn, OpenIn, instance, Modelled}
-use Rattle.tableau.specs.Instances.{names_of, ranges, size, nth_assignment}
+use Rattle.tableau.specs.Signs.{Valuation, Holds, Agrees, SomeOf, StandsIn, DeniedIn, OpenIn, Modelled}
 use Rattle.tableau.specs.Branch.{Models}
 
 -- the sign that a mark gives
@@ -51,15 +51,14 @@ Found P c clauses ms (Ok None) = P
 Found P c clauses ms (Ok (Some l)) = (l.atom < atoms c) × OpenIn ms l
 Found P c clauses ms (Err _) = NoModel (Modelled c clauses) ms
 
--- the instance of clause i at the k-th assignment of its own variables is fulfilled
-abbrev pub FulfilledAt : Counts → List Clause → List Mark → (i k : ℕ) → Type 0
-FulfilledAt c clauses ms i k =
-    SomeOf (StandsIn ms) (instance c (names_of (nth_assignment (ranges c (slice_index_or clauses i [])) k)) (slice_index_or clauses i []))
+-- every instance of the clause has a literal that stands
+abbrev pub FulfilsClause : Counts → List Mark → Clause → Type 0
+FulfilsClause c ms cl = (σ : Assignment) → Assigns c σ → SomeStands c ms σ cl
 
--- every instance of clause i is, from one on
+-- of clause i, of which the instances before one are left out
 abbrev pub ClauseSurveyed : Counts → List Clause → List Mark → (i first : ℕ) → Type 0
-ClauseSurveyed c clauses ms i first = (k : ℕ) → k < size (ranges c (slice_index_or clauses i [])) → first ≤ k → FulfilledAt c clauses ms i k
+ClauseSurveyed c clauses ms i first = first ≡ 0 → FulfilsClause c ms (slice_index_or clauses i [])
 
--- and of the clauses from one on
+-- of the clauses from one on
 abbrev pub SurveyedFrom : Counts → List Clause → List Mark → ℕ → Type 0
-SurveyedFrom c clauses ms from = (i : ℕ) → i < length clauses → from ≤ i → (k : ℕ) → k < size (ranges c (slice_index_or clauses i [])) → FulfilledAt c clauses ms i k
+SurveyedFrom c clauses ms from = (i : ℕ) → i < length clauses → from ≤ i → FulfilsClause c ms (slice_index_or clauses i [])

@@ -5,7 +5,6 @@ pub(crate) mod clash;
 pub mod judge;
 pub(crate) mod moves;
 pub(crate) mod pursue;
-pub(crate) mod ranges;
 pub(crate) mod scan;
 pub(crate) mod search;
 pub(crate) mod spans;

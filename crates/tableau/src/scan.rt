@@ -3,58 +3,29 @@ ghost use Rattle.std.specs.Prelude.{◌≡◌, ℕ, ◌<◌, ◌≤◌, [], leng
 ghost use Rattle.syntax.specs.declared.types.Mark.TheVariants.{Open};
 ghost use Rattle.syntax.specs.Numbers.{atoms};
 ghost use Rattle.syntax.specs.Lawful.{LawfulLiteral};
-ghost use Rattle.semantics.specs.Meaning.{name_at, ground_of};
+ghost use Rattle.semantics.specs.Meaning.{Assigns};
+ghost use Rattle.instances.specs.Assignments.{names_of};
 ghost use Rattle.tableau.specs.Signs.{signed_atom_of, instance};
-ghost use Rattle.tableau.specs.Instances.{names_of, Below};
 ghost use Rattle.tableau.specs.Scans.{sign_of, Evaluated, with_open};
 
-use crate::types::{FourNames, Search, Status};
+use crate::types::{Search, Status};
 use books::book::Book;
+use instances::literals;
 use syntax::counts::Counts;
 use syntax::numbers::atom_number;
-use syntax::types::{Atom, Ground, Literal, Mark, SignedAtom, Term};
+use syntax::types::{Literal, Mark, SignedAtom};
 use tables::table::BranchTable;
 
-// The name that a term stands for.
-fn name_of(names: FourNames, term: Term) -> u8
-    ensures { result ≡ name_at (names_of names) term }
-{
-    match term {
-        Term::Name(a) => a,
-        Term::Var(0) => names.x,
-        Term::Var(1) => names.y,
-        Term::Var(2) => names.z,
-        Term::Var(_) => names.w,
-    }
-}
-
-// The instance of an atom.
-fn ground(names: FourNames, atom: Atom) -> Ground
-    ensures { result ≡ ground_of (names_of names) atom }
-{
-    match atom {
-        Atom::Same(t, u) => Ground::Same(name_of(names, t), name_of(names, u)),
-        Atom::Prop(p, t) => Ground::Prop(p, name_of(names, t)),
-        Atom::Rel(r, t, u) => Ground::Rel(r, name_of(names, t), name_of(names, u)),
-    }
-}
-
 // The instance of a literal, by its number.
-fn signed_atom(counts: Counts, names: FourNames, l: Literal) -> SignedAtom
+fn signed_atom(counts: Counts, names: [u8; 4], l: Literal) -> SignedAtom
     requires lawful { LawfulLiteral counts l }
-    requires below { Below counts names }
+    requires assigns { Assigns counts (names_of names) }
     ensures is { result ≡ signed_atom_of counts (names_of names) l }
     ensures below { result.atom < atoms counts }
 {
-    match atom_number(counts, ground(names, l.atom)) {
-        Some(k) => SignedAtom {
-            atom: k as u16,
-            sign: l.sign,
-        },
-        None => SignedAtom {
-            atom: 0,
-            sign: l.sign,
-        },
+    SignedAtom {
+        atom: atom_number(counts, literals::instance(names, l.atom)).unwrap() as u16,
+        sign: l.sign,
     }
 }
 
@@ -65,8 +36,7 @@ fn opens(status: Status, l: SignedAtom) -> Status
     match status {
         Status::Fulfilled => Status::Fulfilled,
         Status::Broken => Status::Forced(l),
-        Status::Forced(m) => Status::Loose(m),
-        Status::Loose(m) => Status::Loose(m),
+        Status::Forced(m) | Status::Loose(m) => Status::Loose(m),
     }
 }
 
@@ -83,9 +53,9 @@ impl<'b, 't, 's, 'c, 'm, 'n, B: Book, T: BranchTable> Search<'b, 't, 's, 'c, 'm,
     }
 
     // How an instance of clause i stands on the branch.
-    pub(crate) fn evaluate(&self, i: usize, names: FourNames) -> Status
+    pub(crate) fn evaluate(&self, i: usize, names: [u8; 4]) -> Status
         requires inside { i < length (B.clauses self.now.book.now) }
-        requires below { Below (B.counts self.now.book.now) names }
+        requires assigns { Assigns (B.counts self.now.book.now) (names_of names) }
         requires reaches { atoms (B.counts self.now.book.now) ≤ length (T.marks self.now.table.now) }
         ensures { Evaluated (T.marks self.now.table.now) (instance (B.counts self.now.book.now) (names_of names) (slice_index_or (B.clauses self.now.book.now) i [])) (instance (B.counts self.now.book.now) (names_of names) (slice_index_or (B.clauses self.now.book.now) i [])) result }
     {

@@ -1,11 +1,11 @@
 // What a ground atom binds the variables of an atom to, and the assignments left.
-ghost use Rattle.std.specs.Prelude.{◌<◌};
-ghost use Rattle.tableau.specs.Instances.{Below, size as size_by};
+ghost use Rattle.semantics.specs.Meaning.{Assigns};
+ghost use Rattle.instances.specs.Assignments.{names_of};
 ghost use Rattle.tableau.specs.Spans.{InSpan, InSpans, SpanIf, SpansIf, Runs};
 
-use crate::ranges::{nth_names, ranges};
-use crate::types::{FourNames, Ranges, Span, Spans};
+use crate::types::Span;
 use books::book::Book;
+use instances::ranges::Ranges;
 use syntax::counts::Counts;
 use syntax::types::{Atom, Ground, Term};
 
@@ -24,8 +24,9 @@ fn bind_variable(counts: Counts, span: Span, name: u8) -> Option<Span>
     }
 }
 
-// Binds a term to a name: a name only to itself, and a variable that is bound only to the same name again.
-fn bind_term(counts: Counts, spans: Spans, term: Term, name: u8) -> Option<Spans>
+// Binds a term to a name: a name only to itself, and a variable that is bound only to the same name again. There is no
+// variable past 3; one that is asked for is read as 3.
+fn bind_term(counts: Counts, spans: [Span; 4], term: Term, name: u8) -> Option<[Span; 4]>
     requires { InSpans counts spans }
     ensures { SpansIf counts result }
 {
@@ -34,31 +35,26 @@ fn bind_term(counts: Counts, spans: Spans, term: Term, name: u8) -> Option<Spans
         Term::Name(a) => if a != name {
             return None;
         },
-        Term::Var(0) => bound.x = bind_variable(counts, spans.x, name)?,
-        Term::Var(1) => bound.y = bind_variable(counts, spans.y, name)?,
-        Term::Var(2) => bound.z = bind_variable(counts, spans.z, name)?,
-        Term::Var(_) => bound.w = bind_variable(counts, spans.w, name)?,
+        Term::Var(v) => {
+            let v = v.min(3) as usize;
+            bound[v] = bind_variable(counts, spans[v], name)?;
+        }
     }
     Some(bound)
 }
 
 // Every variable may stand for every name.
-fn all_names(counts: Counts) -> Spans
+fn all_names(counts: Counts) -> [Span; 4]
     ensures { InSpans counts result }
 {
     let all = Span {
         first: 0,
         count: counts.names(),
     };
-    Spans {
-        x: all,
-        y: all,
-        z: all,
-        w: all,
-    }
+    [all; 4]
 }
 
-fn bind_two(counts: Counts, t: Term, a: u8, u: Term, b: u8) -> Option<Spans>
+fn bind_two(counts: Counts, t: Term, a: u8, u: Term, b: u8) -> Option<[Span; 4]>
     ensures { SpansIf counts result }
 {
     let spans = bind_term(counts, all_names(counts), t, a)?;
@@ -66,7 +62,7 @@ fn bind_two(counts: Counts, t: Term, a: u8, u: Term, b: u8) -> Option<Spans>
 }
 
 // Binds the variables of an atom so that the ground atom is its instance; nothing where it is none.
-pub(crate) fn bind(counts: Counts, atom: Atom, g: Ground) -> Option<Spans>
+pub(crate) fn bind(counts: Counts, atom: Atom, g: Ground) -> Option<[Span; 4]>
     ensures { SpansIf counts result }
 {
     match (atom, g) {
@@ -86,31 +82,24 @@ pub(crate) fn bind(counts: Counts, atom: Atom, g: Ground) -> Option<Spans>
 }
 
 // How many names each variable of clause i still runs through.
-pub(crate) fn ranges_in<B: Book>(book: &B, i: usize, spans: Spans) -> Ranges
-    requires { InSpans (B.Book.counts book.now) spans }
+pub(crate) fn ranges_in<B: Book>(book: &B, i: usize, spans: [Span; 4]) -> Ranges
+    requires { InSpans (B.counts book.now) spans }
     ensures { Runs spans result }
 {
-    let all = ranges(book, i);
-    Ranges {
-        x: all.x.min(usize::from(spans.x.count)),
-        y: all.y.min(usize::from(spans.y.count)),
-        z: all.z.min(usize::from(spans.z.count)),
-        w: all.w.min(usize::from(spans.w.count)),
-    }
+    Ranges::of(book, i).capped(spans.map(|s| s.count))
 }
 
 // The k-th assignment of the variables.
-pub(crate) fn nth_in(counts: Counts, spans: Spans, ranges: Ranges, k: usize) -> FourNames
+pub(crate) fn nth_in(counts: Counts, spans: [Span; 4], ranges: Ranges, k: usize) -> [u8; 4]
     requires spans { InSpans counts spans }
     requires runs { Runs spans ranges }
-    requires inside { k < size_by ranges }
-    ensures { Below counts result }
+    ensures { Assigns counts (names_of result) }
 {
-    let n = nth_names(ranges, k);
-    FourNames {
-        x: spans.x.first + n.x,
-        y: spans.y.first + n.y,
-        z: spans.z.first + n.z,
-        w: spans.w.first + n.w,
-    }
+    let n = ranges.nth(k);
+    [
+        spans[0].first + n[0],
+        spans[1].first + n[1],
+        spans[2].first + n[2],
+        spans[3].first + n[3],
+    ]
 }

@@ -4,9 +4,9 @@ ghost use Rattle.syntax.specs.Numbers.{atoms};
 ghost use Rattle.semantics.specs.Branch.{Fulfilled};
 ghost use Rattle.tableau.specs.Scans.{Found, ClauseSurveyed, SurveyedFrom};
 
-use crate::ranges::{nth_names, ranges, size};
 use crate::types::{Hints, Hopeless, Search, Status};
 use books::book::Book;
+use instances::ranges::Ranges;
 use syntax::types::SignedAtom;
 use tables::table::BranchTable;
 
@@ -23,10 +23,10 @@ impl<'b, 't, 's, 'c, 'm, 'n, B: Book, T: BranchTable> Search<'b, 't, 's, 'c, 'm,
         requires reaches { atoms (B.counts self.now.book.now) ≤ length (T.marks self.now.table.now) }
         ensures { Found (ClauseSurveyed (B.counts self.now.book.now) (B.clauses self.now.book.now) (T.marks self.now.table.now) i first) (B.counts self.now.book.now) (B.clauses self.now.book.now) (T.marks self.now.table.now) result }
     {
-        let ranges = ranges(self.book, i);
-        for k in first..size(ranges) {
+        let ranges = Ranges::of(self.book, i);
+        for k in first..ranges.size() {
             hints.instance = k;
-            match self.evaluate(i, nth_names(ranges, k)) {
+            match self.evaluate(i, ranges.nth(k)) {
                 Status::Fulfilled => {}
                 Status::Broken => return Err(Hopeless),
                 Status::Forced(l) | Status::Loose(l) => return Ok(Some(l)),

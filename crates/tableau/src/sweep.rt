@@ -1,13 +1,14 @@
 // Tells what the instances force, one clause after the other.
 ghost use Rattle.std.specs.Prelude.{◌<◌, length};
 ghost use Rattle.syntax.specs.Numbers.{atoms};
+ghost use Rattle.semantics.specs.Meaning.{Assigns};
+ghost use Rattle.instances.specs.Assignments.{names_of};
 ghost use Rattle.tableau.specs.Signs.{OpenIn};
-ghost use Rattle.tableau.specs.Instances.{Below};
 ghost use Rattle.tableau.specs.Views.{Ready, Follows, Passes, Tries};
 
-use crate::ranges::{nth_names, ranges, size};
-use crate::types::{FourNames, Hopeless, Search, Status};
+use crate::types::{Hopeless, Search, Status};
 use books::book::Book;
+use instances::ranges::Ranges;
 use syntax::types::SignedAtom;
 use tables::table::BranchTable;
 
@@ -26,10 +27,10 @@ impl<'b, 't, 's, 'c, 'm, 'n, B: Book, T: BranchTable> Search<'b, 't, 's, 'c, 'm,
     }
 
     // Tells what one instance forces: whether it forces anything.
-    pub(crate) fn press(&mut self, i: usize, names: FourNames) -> Result<bool, Hopeless>
+    pub(crate) fn press(&mut self, i: usize, names: [u8; 4]) -> Result<bool, Hopeless>
         requires ready { Ready B.Book T.BranchTable self.old }
         requires inside { i < length (B.clauses self.old.book.now) }
-        requires below { Below (B.counts self.old.book.now) names }
+        requires assigns { Assigns (B.counts self.old.book.now) (names_of names) }
         ensures { Passes B.Book T.BranchTable self.old self.new result }
     {
         match self.evaluate(i, names) {
@@ -48,10 +49,10 @@ impl<'b, 't, 's, 'c, 'm, 'n, B: Book, T: BranchTable> Search<'b, 't, 's, 'c, 'm,
         requires inside { i < length (B.clauses self.old.book.now) }
         ensures { Passes B.Book T.BranchTable self.old self.new result }
     {
-        let ranges = ranges(self.book, i);
+        let ranges = Ranges::of(self.book, i);
         let mut moved = false;
-        for k in 0..size(ranges) {
-            moved |= self.press(i, nth_names(ranges, k))?;
+        for k in 0..ranges.size() {
+            moved |= self.press(i, ranges.nth(k))?;
         }
         Ok(moved)
     }

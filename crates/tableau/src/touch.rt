@@ -3,16 +3,15 @@ ghost use Rattle.std.specs.Prelude.{◌<◌, length};
 ghost use Rattle.tableau.specs.Spans.{InSpans};
 ghost use Rattle.tableau.specs.Views.{Ready, Passes};
 
-use crate::ranges::size;
 use crate::spans::{bind, nth_in, ranges_in};
-use crate::types::{Hopeless, Search, Spans};
+use crate::types::{Hopeless, Search, Span};
 use books::book::Book;
 use syntax::types::{Ground, Literal};
 use tables::table::BranchTable;
 
 impl<'b, 't, 's, 'c, 'm, 'n, B: Book, T: BranchTable> Search<'b, 't, 's, 'c, 'm, 'n, B, T> {
     // In the instances of clause i under the assignments of the spans.
-    fn touch_spans(&mut self, i: usize, spans: Spans) -> Result<bool, Hopeless>
+    fn touch_spans(&mut self, i: usize, spans: [Span; 4]) -> Result<bool, Hopeless>
         requires ready { Ready B.Book T.BranchTable self.old }
         requires inside { i < length (B.clauses self.old.book.now) }
         requires spans { InSpans (B.counts self.old.book.now) spans }
@@ -21,7 +20,7 @@ impl<'b, 't, 's, 'c, 'm, 'n, B: Book, T: BranchTable> Search<'b, 't, 's, 'c, 'm,
         let counts = self.book.counts();
         let ranges = ranges_in(self.book, i, spans);
         let mut moved = false;
-        for k in 0..size(ranges) {
+        for k in 0..ranges.size() {
             moved |= self.press(i, nth_in(counts, spans, ranges, k))?;
         }
         Ok(moved)

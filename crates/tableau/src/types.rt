@@ -18,24 +18,6 @@ pub(crate) struct Search<'b, 't, 's, 'c, 'm, 'n, B, T> {
 #[derive(Clone, Copy)]
 pub(crate) struct Hopeless;
 
-// The names put for the variables 0 to 3.
-#[derive(Clone, Copy)]
-pub(crate) struct FourNames {
-    pub(crate) x: u8,
-    pub(crate) y: u8,
-    pub(crate) z: u8,
-    pub(crate) w: u8,
-}
-
-// How many names each of the variables 0 to 3 runs through.
-#[derive(Clone, Copy)]
-pub(crate) struct Ranges {
-    pub(crate) x: usize,
-    pub(crate) y: usize,
-    pub(crate) z: usize,
-    pub(crate) w: usize,
-}
-
 // How an instance stands on a branch: a literal stands; all are denied; all but one, which is open;
 // more than one is open.
 #[derive(Clone, Copy)]
@@ -51,15 +33,6 @@ pub(crate) enum Status {
 pub(crate) struct Span {
     pub(crate) first: u8,
     pub(crate) count: u8,
-}
-
-// The same of the variables 0 to 3.
-#[derive(Clone, Copy)]
-pub(crate) struct Spans {
-    pub(crate) x: Span,
-    pub(crate) y: Span,
-    pub(crate) z: Span,
-    pub(crate) w: Span,
 }
 
 // Where the search goes on. Nothing rests on it: whatever it says, the search is right.

@@ -1,4 +1,4 @@
-use Rattle.std.proofs.Common.{◌∙◌, ap, length, sym, subst, arith}
+use Rattle.std.proofs.Common.{ap, length, sym, subst, arith}
 use Rattle.syntax.specs.declared.counts.Counts.{Counts}
 use Rattle.semantics.specs.Branch.{ClassTable}
 use Rattle.classes.specs.Leaders.{leader_of}

@@ -1,4 +1,4 @@
-use Rattle.std.proofs.Common.{rules, sym}
+use Rattle.std.proofs.Common.{rules}
 use Rattle.tableau.proofs.Judging.{ready_first, searched_some, searched_none}
 use Rattle.tableau.proofs.search.search.Goals as goal
 

@@ -1,5 +1,4 @@
-use Rattle.std.proofs.Common.{true, false, Err, refl}
-use Rattle.tableau.specs.Views.{Gone, Searching}
+use Rattle.std.proofs.Common.{true, Err, refl}
 use Rattle.tableau.proofs.Going.{gone_after, tried_ok, tried_err}
 use Rattle.tableau.proofs.types.Search.backtrack.Goals as goal
 

@@ -1,4 +1,4 @@
-use Rattle.std.proofs.Common.{◌≡◌, Decides, refl, subst}
+use Rattle.std.proofs.Common.{◌≡◌, refl, subst}
 use mathlib.Core.Bool.{false≢true}
 use Rattle.syntax.specs.declared.counts.Counts.{Counts}
 use Rattle.syntax.specs.Numbers.{number_of, LawfulGround}

@@ -3,11 +3,12 @@ use mathlib.Core.Bool.{beq}
 use Rattle.std.specs.Option.{option_eq, is_some}
 use Rattle.syntax.specs.declared.counts.Counts.{Counts}
 use Rattle.syntax.specs.Lawful.{LawfulLiteral}
+use Rattle.semantics.specs.Meaning.{Assigns}
 use Rattle.books.proofs.Readings.{literal_of_list, literal_lawful, clause_lawful}
 use Rattle.syntax.specs.declared.types.SignedAtom.{SignedAtom}
 use Rattle.tableau.specs.declared.types.Status.{Status}
 use Rattle.tableau.specs.Signs.{signed_atom_of, instance}
-use Rattle.tableau.specs.Instances.{names_of, Below}
+use Rattle.instances.specs.Assignments.{names_of}
 use Rattle.tableau.specs.Scans.{Evaluated}
 use Rattle.tableau.proofs.Looks.{at_step, at_end, has_here, more_denied, more_open, stands_by, denied_by, open_by}
 use Rattle.tableau.proofs.types.Search.evaluate.Goals as goal
@@ -20,7 +21,7 @@ signed_atom-atom-requires g c =
     let e = sym c.counts-counts.ensures in
     record {
       lawful = subst (λ (k : Counts). LawfulLiteral k c.in-Some.l) e (literal_lawful (b.counts book) (b.clauses book) c.args.i c.loop-l.j c.in-Some.l (b.lawful book) c.in-Some.ensures);
-      below = subst (λ (k : Counts). Below k c.args.names) e c.requires.below;
+      assigns = subst (λ (k : Counts). Assigns k (names_of c.args.names)) e c.requires.assigns;
     }
 
 pub returns-then-eq : goal.returns-then-eq

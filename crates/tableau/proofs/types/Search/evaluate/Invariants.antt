@@ -1,6 +1,6 @@
 use Rattle.std.proofs.Common.{◌-◌, [], length, get_or, take}
 use Rattle.tableau.specs.Signs.{instance}
-use Rattle.tableau.specs.Instances.{names_of}
+use Rattle.instances.specs.Assignments.{names_of}
 use Rattle.tableau.specs.Scans.{Evaluated}
 use Rattle.tableau.proofs.types.Search.evaluate.Given as goal
 

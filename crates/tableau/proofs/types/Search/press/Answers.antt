@@ -1,8 +1,8 @@
 use Rattle.std.proofs.Common.{[], get_or}
 use Rattle.tableau.specs.Signs.{instance}
-use Rattle.tableau.specs.Instances.{names_of}
+use Rattle.instances.specs.Assignments.{names_of}
 use Rattle.tableau.proofs.States.{no_model, entails}
-use Rattle.tableau.proofs.Clauses.{assigns_below, satisfied, atom_below}
+use Rattle.tableau.proofs.Clauses.{satisfied, atom_below}
 use Rattle.tableau.proofs.Going.{gone_here}
 use Rattle.tableau.proofs.types.Search.press.Goals as goal
 
@@ -16,7 +16,7 @@ returns-in-Broken g c =
         state = c.requires.ready.state;
         hopeless =
             no_model (g.T.BranchTable.marks c.args.self.now.table.now) (instance (b.counts book) (names_of n) (get_or (b.clauses book) c.args.i []))
-            (satisfied (b.counts book) (b.clauses book) (b.lawful book) c.args.i c.requires.inside (names_of n) (assigns_below (b.counts book) n c.requires.below))
+            (satisfied (b.counts book) (b.clauses book) (b.lawful book) c.args.i c.requires.inside (names_of n) c.requires.assigns)
             c.in-Broken.ensures;
       },
     )
@@ -27,7 +27,7 @@ enforce-requires g c =
     let book = c.args.self.now.book.now in
     let n = c.args.names in
     let s = c.in-Forced.ensures in
-    let assigns = assigns_below (b.counts book) n c.requires.below in
+    let assigns = c.requires.assigns in
     record {
       ready = c.requires.ready;
       below = atom_below (b.counts book) (b.clauses book) (b.lawful book) c.args.i c.requires.inside (names_of n) assigns c.in-Forced.l s.1;

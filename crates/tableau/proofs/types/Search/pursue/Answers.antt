@@ -1,4 +1,4 @@
-use Rattle.std.proofs.Common.{Bor, ap, arith}
+use Rattle.std.proofs.Common.{ap, arith}
 use Rattle.syntax.specs.Numbers.{atoms}
 use Rattle.tableau.proofs.States.{trail_le}
 use Rattle.tableau.proofs.types.Search.pursue.Goals as goal

@@ -9,4 +9,4 @@ returns g c =
     let book = c.args.self.now.book.now in
     let ms = g.T.BranchTable.marks c.args.self.now.table.now in
     found_so (b.counts book) (b.clauses book) ms (SurveyedFrom (b.counts book) (b.clauses book) ms 0) (Fulfilled (b.counts book) (b.clauses book) ms) c.survey_from.result
-    (surveyed_whole (b.counts book) (b.clauses book) ms (b.lawful book)) c.survey_from.ensures
+    (surveyed_whole (b.counts book) (b.clauses book) ms) c.survey_from.ensures

@@ -1,4 +1,4 @@
-use Rattle.std.proofs.Common.{arith, below_more}
+use Rattle.std.proofs.Common.{below_more, refl}
 use Rattle.tableau.specs.Scans.{ClauseSurveyed}
 use Rattle.tableau.proofs.Clauses.{found_none}
 use Rattle.tableau.proofs.types.Search.survey_from.Goals as goal
@@ -9,7 +9,4 @@ loop-i-preserved g c =
     let book = c.args.self.now.book.now in
     let ms = g.T.BranchTable.marks c.args.self.now.table.now in
     below_more _ _ c.loop-i.invariant
-    (λ _ k h. found_none (b.counts book) (b.clauses book) ms (ClauseSurveyed (b.counts book) (b.clauses book) ms c.loop-i.i 0) c.in_ok-found.found c.if-is_some.ensures c.in_ok-found.ensures k h (omega arith))
-
-pub returns : goal.returns
-returns g c = λ i h f. c.loop-i.invariant i (omega (arith, c.loop-i-test.false, c.len-i-end.ensures)) f
+    (λ _. found_none (b.counts book) (b.clauses book) ms (ClauseSurveyed (b.counts book) (b.clauses book) ms c.loop-i.i 0) c.in_ok-found.found c.if-is_some.ensures c.in_ok-found.ensures refl)
