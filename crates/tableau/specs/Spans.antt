@@ -1,5 +1,5 @@
 -- The names that variables may stand for once some of them are bound.
-use Rattle.std.specs.Prelude.{ℕ, ◌+◌, ◌<◌, ◌≤◌, List, Some, None, Option, map, slice_index}
+use Rattle.std.specs.Prelude.{ℕ, ◌+◌, ◌<◌, ◌≤◌, List, map, slice_index}
 use Rattle.std.specs.List.{AllByRecursion}
 use Rattle.syntax.specs.declared.counts.Counts.{Counts}
 use Rattle.instances.specs.declared.ranges.Ranges.{Ranges}
@@ -13,15 +13,6 @@ pub record InSpan (c : Counts) (s : Span) : Type 0 where
 -- of each of the four variables
 abbrev pub InSpans : Counts → List Span → Type 0
 InSpans c s = AllByRecursion (InSpan c) s
-
--- where there are any
-abbrev pub SpanIf : Counts → Option Span → Type 0
-SpanIf c None = Unit {0}
-SpanIf c (Some s) = InSpan c s
-
-abbrev pub SpansIf : Counts → Option (List Span) → Type 0
-SpansIf c None = Unit {0}
-SpansIf c (Some s) = InSpans c s
 
 -- ranges that do not pass the spans
 abbrev pub Runs : List Span → Ranges → Type 0

@@ -61,17 +61,14 @@ impl<'b, 't, 's, 'c, 'm, 'n, B: Book, T: BranchTable> Search<'b, 't, 's, 'c, 'm,
     {
         let counts = self.book.counts();
         let mut status = Status::Broken;
-        let mut j = 0;
-        while let Some(l) = self.book.literal(i, j) {
+        for l in self.book.literals_of(i) {
             let atom = signed_atom(counts, names, l);
-            let sign = self.sign_at(atom.atom as usize);
-            if sign == Some(atom.sign) {
-                return Status::Fulfilled;
+            match self.sign_at(atom.atom as usize) {
+                Some(sign) => if sign == atom.sign {
+                    return Status::Fulfilled;
+                },
+                None => status = opens(status, atom),
             }
-            if sign.is_none() {
-                status = opens(status, atom);
-            }
-            j += 1;
         }
         status
     }

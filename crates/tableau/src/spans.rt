@@ -1,7 +1,8 @@
 // What a ground atom binds the variables of an atom to, and the assignments left.
+ghost use Rattle.std.specs.Prelude.{IfSome};
 ghost use Rattle.semantics.specs.Meaning.{Assigns};
 ghost use Rattle.instances.specs.Assignments.{names_of};
-ghost use Rattle.tableau.specs.Spans.{InSpan, InSpans, SpanIf, SpansIf, Runs};
+ghost use Rattle.tableau.specs.Spans.{InSpan, InSpans, Runs};
 
 use crate::types::Span;
 use books::book::Book;
@@ -12,7 +13,7 @@ use syntax::types::{Atom, Ground, Term};
 // Binds one variable to a name, if it may stand for it.
 fn bind_variable(counts: Counts, span: Span, name: u8) -> Option<Span>
     requires { InSpan counts span }
-    ensures { SpanIf counts result }
+    ensures { IfSome result (InSpan counts) }
 {
     if span.first <= name && name - span.first < span.count {
         Some(Span {
@@ -28,7 +29,7 @@ fn bind_variable(counts: Counts, span: Span, name: u8) -> Option<Span>
 // variable past 3; one that is asked for is read as 3.
 fn bind_term(counts: Counts, spans: [Span; 4], term: Term, name: u8) -> Option<[Span; 4]>
     requires { InSpans counts spans }
-    ensures { SpansIf counts result }
+    ensures { IfSome result (InSpans counts) }
 {
     let mut bound = spans;
     match term {
@@ -55,7 +56,7 @@ fn all_names(counts: Counts) -> [Span; 4]
 }
 
 fn bind_two(counts: Counts, t: Term, a: u8, u: Term, b: u8) -> Option<[Span; 4]>
-    ensures { SpansIf counts result }
+    ensures { IfSome result (InSpans counts) }
 {
     let spans = bind_term(counts, all_names(counts), t, a)?;
     bind_term(counts, spans, u, b)
@@ -63,7 +64,7 @@ fn bind_two(counts: Counts, t: Term, a: u8, u: Term, b: u8) -> Option<[Span; 4]>
 
 // Binds the variables of an atom so that the ground atom is its instance; nothing where it is none.
 pub(crate) fn bind(counts: Counts, atom: Atom, g: Ground) -> Option<[Span; 4]>
-    ensures { SpansIf counts result }
+    ensures { IfSome result (InSpans counts) }
 {
     match (atom, g) {
         (Atom::Same(t, u), Ground::Same(a, b)) => bind_two(counts, t, a, u, b),

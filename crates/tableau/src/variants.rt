@@ -39,14 +39,8 @@ fn is_led(classes: &ClassTable, g: Ground, x: u8, y: u8) -> bool
 // Whether the atom occurs in an instance of clause i.
 fn occurs_in<B: Book>(book: &B, i: usize, g: Ground) -> bool {
     let counts = book.counts();
-    let mut j = 0;
-    while let Some(l) = book.literal(i, j) {
-        if let Some(_spans) = bind(counts, l.atom, g) {
-            return true;
-        }
-        j += 1;
-    }
-    false
+    book.literals_of(i)
+        .any(|l| bind(counts, l.atom, g).is_some())
 }
 
 // Whether it occurs in some instance.

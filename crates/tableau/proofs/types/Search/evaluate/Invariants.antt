@@ -1,13 +1,11 @@
-use Rattle.std.proofs.Common.{◌-◌, [], length, get_or, take}
-use Rattle.tableau.specs.Signs.{instance}
+use Rattle.std.proofs.Common.{[], get_or}
+use Rattle.books.specs.Rest.{literals_left}
 use Rattle.instances.specs.Assignments.{names_of}
-use Rattle.tableau.specs.Scans.{Evaluated}
+use Rattle.tableau.proofs.Looks.{Looked}
 use Rattle.tableau.proofs.types.Search.evaluate.Given as goal
 
 abbrev pub invariant-loop-l : goal.invariant-loop-l
 invariant-loop-l g l =
-    let c = instance (g.B.Book.counts l.self.book.now) (names_of l.names) (get_or (g.B.Book.clauses l.self.book.now) l.i []) in
-    Evaluated (g.T.BranchTable.marks l.self.table.now) c (take l.j c) l.status
-
-abbrev pub decreases-loop-l : goal.decreases-loop-l
-decreases-loop-l g l = length (get_or (g.B.Book.clauses l.self.book.now) l.i []) - l.j
+    let b = g.B.Book in
+    let book = l.self.book.now in
+    Looked (b.counts book) (g.T.BranchTable.marks l.self.table.now) (names_of l.names) (get_or (b.clauses book) l.i []) (literals_left b.clauses l.l-iterator) l.status
