@@ -22,6 +22,7 @@ impl<'b, 't, 's, 'c, 'm, 'n, B: Book, T: BranchTable> Search<'b, 't, 's, 'c, 'm,
     }
 
     // Tells what the atoms on the trail from a height on force, and what those told force, and so on.
+    // A twin of `spread_from` but for the step: the check covers no closure that takes `&mut Self`, for its many lifetimes.
     fn pursue(&mut self, from: usize) -> Result<bool, Hopeless>
         requires { Ready B.Book T.BranchTable self.old }
         ensures { Passes B.Book T.BranchTable self.old self.new result }

@@ -28,11 +28,9 @@ fn is_led(classes: &ClassTable, g: Ground, x: u8, y: u8) -> bool
     ensures { result ≡ true → OneLed (leader_of classes.now) g x y }
 {
     match g {
-        Ground::Same(a, b) => classes.leader(a) == classes.leader(x)
+        Ground::Same(a, b) | Ground::Rel(_, a, b) => classes.leader(a) == classes.leader(x)
             && classes.leader(b) == classes.leader(y),
         Ground::Prop(_, a) => y == 0 && classes.leader(a) == classes.leader(x),
-        Ground::Rel(_, a, b) => classes.leader(a) == classes.leader(x)
-            && classes.leader(b) == classes.leader(y),
     }
 }
 
@@ -56,9 +54,10 @@ fn is_linked(classes: &ClassTable, names: u8, a: u8) -> bool {
 // Whether that is so of a name of the atom.
 fn has_linked(classes: &ClassTable, names: u8, g: Ground) -> bool {
     match g {
-        Ground::Same(a, b) => is_linked(classes, names, a) || is_linked(classes, names, b),
+        Ground::Same(a, b) | Ground::Rel(_, a, b) => {
+            is_linked(classes, names, a) || is_linked(classes, names, b)
+        }
         Ground::Prop(_, a) => is_linked(classes, names, a),
-        Ground::Rel(_, a, b) => is_linked(classes, names, a) || is_linked(classes, names, b),
     }
 }
 
@@ -123,6 +122,7 @@ impl<'b, 't, 's, 'c, 'm, 'n, B: Book, T: BranchTable> Search<'b, 't, 's, 'c, 'm,
     }
 
     // For the atoms on the trail from a height on.
+    // A twin of `pursue` but for the step: the check covers no closure that takes `&mut Self`, for its many lifetimes.
     fn spread_from(&mut self, from: usize) -> Result<bool, Hopeless>
         requires { Ready B.Book T.BranchTable self.old }
         ensures { Passes B.Book T.BranchTable self.old self.new result }
