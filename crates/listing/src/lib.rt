@@ -17,7 +17,7 @@ pub fn take_in(text: &[u8]) -> Result<Intake, Refusal>
     if text.len() > 32768 {
         return Err(Refusal::TextFault(Place::default()));
     }
-    // Each end of a line ends one, and one more is begun where the last byte is no end.
+    // Byte 10 ends a line; a last line without it counts too.
     let ends = text.iter().filter(|b| **b == b'\n').count();
     let begun = text.last().is_some_and(|b| *b != b'\n');
     Ok(Intake {

@@ -5,7 +5,7 @@ ghost use Rattle.syntax.specs.Signs.{signed, opposite, filler};
 use crate::types::{Atom, Literal, Mark, Term};
 use std::ops::Not;
 
-// Yes where it is said, no where it is denied.
+// Yes for a literal that is said, no for one denied.
 impl From<bool> for Mark {
     ghost from_gives = { λ sign m. m ≡ signed sign };
 

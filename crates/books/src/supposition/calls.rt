@@ -12,7 +12,7 @@ use syntax::counts::Counts;
 use syntax::lawful::is_ground_literal;
 use syntax::types::{Literal, Refusal};
 
-// Those of the literals that are ground and lawful at the counts: how many.
+// How many of the literals are ground and lawful at the counts.
 fn counted(counts: Counts, literals: &[Literal]) -> usize
     ensures { result ≡ length (filter (ground_literal counts) literals.now) }
 {
@@ -22,7 +22,7 @@ fn counted(counts: Counts, literals: &[Literal]) -> usize
         .count()
 }
 
-// And the one at k; nothing beyond them.
+// Of those, the one at k; nothing beyond them.
 fn counted_at(counts: Counts, literals: &[Literal], k: usize) -> Option<Literal>
     ensures { result ≡ slice_get (filter (ground_literal counts) literals.now) k }
 {
