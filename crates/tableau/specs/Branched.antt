@@ -1,10 +1,7 @@
 -- What looking for a branch promises: judging where no model is written.
-use Rattle.std.specs.Prelude.{◌≡◌, ℕ, ◌||◌, List, [], ◌∷◌, length, Some, None, Ok, Err, Option, Result, nat_lt}
+use Rattle.std.specs.Prelude.{◌≡◌, ℕ, List, length, Some, None, Ok, Err, Option, Result}
 use Rattle.syntax.specs.declared.types.Refusal.{Refusal}
-use Rattle.syntax.specs.declared.types.Refusal.TheVariants.{TableSmall, StackSmall}
 use Rattle.syntax.specs.declared.counts.Counts.{Counts}
-use Rattle.syntax.specs.Numbers.{atoms}
-use Rattle.syntax.specs.Refusals.{first_of}
 use Rattle.semantics.specs.Meaning.{Clause, Model}
 use Rattle.semantics.specs.Branch.{own}
 use Rattle.tables.specs.Lent.{table_refusal}

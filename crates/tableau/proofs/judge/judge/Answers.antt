@@ -1,5 +1,4 @@
-use Rattle.std.proofs.Common.{length, rules}
-use Rattle.semantics.specs.Branch.{own}
+use Rattle.std.proofs.Common.{length}
 use Rattle.semantics.proofs.Own.{own_model_lem}
 use Rattle.classes.specs.Leaders.{leader_of}
 use Rattle.tableau.proofs.Judging.{done_none, enough, wrote}
