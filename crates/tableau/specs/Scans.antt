@@ -55,7 +55,7 @@ Found P c clauses ms (Err _) = NoModel (Modelled c clauses) ms
 abbrev pub FulfilsClause : Counts → List Mark → Clause → Type 0
 FulfilsClause c ms cl = (σ : Assignment) → Assigns c σ → SomeStands c ms σ cl
 
--- of clause i, of which the instances before one are left out
+-- of clause i, if it was surveyed from its first instance on
 abbrev pub ClauseSurveyed : Counts → List Clause → List Mark → (i first : ℕ) → Type 0
 ClauseSurveyed c clauses ms i first = first ≡ 0 → FulfilsClause c ms (slice_index_or clauses i [])
 
