@@ -1,5 +1,5 @@
 // The assignments of a clause's own variables, in order.
-ghost use Rattle.std.specs.Prelude.{◌≡◌, ◌≤◌, [], slice_index_or};
+ghost use Rattle.std.specs.Prelude.{◌≡◌, ◌%◌, ◌≤◌, [], slice_index_or};
 ghost use Rattle.semantics.specs.Checks.{term_use, atom_use, uses as uses_by};
 ghost use Rattle.instances.specs.Assignments.{range as range_by, RunsThrough, Capped, size as size_by, nth_assignment, NthNames, EachAssigns, EachReached, EachLater};
 
@@ -44,6 +44,14 @@ fn range<B: Book>(book: &B, i: usize, v: u8) -> u8
     }
 }
 
+// k modulo n, with no division where k is lower already.
+fn wrapped(k: usize, n: usize) -> usize
+    requires { 1 ≤ n }
+    ensures { result ≡ k % n }
+{
+    if k < n { k } else { k % n }
+}
+
 impl Ranges {
     // The ranges of the variables of clause i: a variable that it uses runs through all names, any other
     // through name 0 alone.
@@ -79,7 +87,7 @@ impl Ranges {
     {
         let [x, y, z, w] = self.most.map(|n| n as usize);
         [
-            (k / w / z / y % x) as u8,
+            wrapped(k / w / z / y, x) as u8,
             (k / w / z % y) as u8,
             (k / w % z) as u8,
             (k % w) as u8,
