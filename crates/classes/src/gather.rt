@@ -24,7 +24,7 @@ impl<'a, T: BranchTable> Classed<'a, T> {
         ensures { Found (view T.marks self.now) symbol mark result }
     {
         let mut pairs = Pairs::new();
-        // Loops over the names, which are numbers: of a set that `for_each` changes a proof would know nothing.
+        // A `for`: after `for_each` a proof knows nothing of what its closure changed.
         for x in 0..self.counts.names() {
             for y in 0..symbol.width(self.counts) {
                 if self.stands(symbol, x, y, mark) {

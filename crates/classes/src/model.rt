@@ -35,7 +35,7 @@ impl<'a, T: BranchTable> Classed<'a, T> {
         ensures right { SymbolRight self.now.counts (own_of (view T.marks self.now)) symbol memory.new }
     {
         let holding = self.holding(symbol);
-        // Loops over the names, which are numbers: of memory that `for_each` changes a proof would know nothing.
+        // A `for`: after `for_each` a proof knows nothing of what its closure changed.
         for x in 0..self.counts.names() {
             for y in 0..symbol.width(self.counts) {
                 let holds = holding.has(self.classes.leader(x), self.classes.leader(y));

@@ -11,8 +11,8 @@ use syntax::types::{Mark, Refusal, SignedAtom};
 // How many atoms a listed table has a mark for.
 const REACH: usize = 10240;
 
-// The first `len` rows are those of the atoms that stand. The rows are lent, and no `ArrayVec`, since a library crate
-// owns no memory.
+// The first `len` rows are those of the atoms that stand. The rows are lent: how many there are is the lender's to say,
+// not the type's, so no `ArrayVec`.
 #[derive(Drop)]
 pub struct ListedTable<'a> {
     rows: &'a mut [SignedAtom],

@@ -18,8 +18,8 @@ pub struct Space<'a, T> {
 }
 
 impl<'a, T: BranchTable> Space<'a, T> {
-    // Whether there is room for a branch over a book with these counts: refused as 6 where the table's reach or capacity is
-    // below the number of ground atoms, then as 7 where the trail or the choices have fewer places.
+    // Whether there is room for a branch over a book with these counts: refused as 6 where the table's reach or
+    // capacity is below the number of ground atoms, then as 7 where the trail or the choices have fewer places.
     pub fn check_room(&self, counts: Counts) -> Result<(), Refusal>
         ensures { result ≡ answer (table_refusal counts (length (T.marks self.now.table.now)) (T.room self.now.table.now) (length self.now.trail.now) (length self.now.choices.now)) }
     {

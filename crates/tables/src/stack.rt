@@ -12,7 +12,7 @@ pub struct Choice {
     pub sign: bool,
 }
 
-// The slots are lent, and no `ArrayVec`, since a library crate owns no memory.
+// The slots are lent: how many there are is the lender's to say, not the type's, so no `ArrayVec`.
 #[derive(Drop)]
 pub struct Stack<'a, T> {
     slots: &'a mut [T],

@@ -1,5 +1,4 @@
-// The calls of a stack that change it. Each says with two clauses that the slots stay those that were lent: the
-// crates above use now the one and now the other, so one relation for both would be no plainer.
+// The calls of a stack that change it. The slots stay those that were lent.
 ghost use Rattle.std.specs.Prelude.{◌≡◌, false, take};
 ghost use Rattle.tables.specs.Stacks.{Pushed, Popped};
 ghost use Rattle.tables.specs.Items.{items, slots_of, loan_of};
