@@ -98,11 +98,7 @@ impl Ranges {
     pub fn names(self, k: usize) -> Option<[u8; 4]>
         ensures { NthNames self k result }
     {
-        if k < self.size() {
-            Some(self.nth(k))
-        } else {
-            None
-        }
+        (k < self.size()).then_some(self.nth(k))
     }
 }
 
