@@ -33,7 +33,8 @@ fn read_contents(body: &[u8]) -> Option<Head>
     Some(Head { counts, len })
 }
 
-// What block 0 says; nothing where its layout is wrong.
+// What block 0 says; nothing where its layout is wrong. That the length is right is a clause of this function and the
+// next two, and no type: `read_blocks` has tested it and makes the book's own type after them.
 pub(crate) fn read_head(bytes: &[u8]) -> Option<Head>
     requires { LengthRight bytes.now }
     ensures { MatchOption result ((c : Cnt) (n : ℕ) → HeadIs bytes.now c n → ⊥) (λ h. HeadIs bytes.now h.counts h.len) }

@@ -1,4 +1,5 @@
-// The symbols of a book: sameness, properties and relations.
+// The symbols of a book: sameness, properties and relations. Which are lawful depends on counts that a symbol doesn't
+// hold, so the methods of `Classed` say so in clauses.
 pub mod atoms;
 
 #[derive(Clone, Copy)]

@@ -5,7 +5,7 @@ use syntax::types::{Literal, Refusal};
 use tableau::verdict::Verdict;
 
 // A call on a working book. A comparison is against a book that is lent, with the working book in the
-// first place or in the second.
+// first place or in the second. An enum and no closures: the law over lists of calls speaks of which calls they are.
 #[derive_where(Clone, Copy)]
 pub enum Call<'a, B> {
     Enter(&'a [Literal]),

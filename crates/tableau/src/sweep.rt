@@ -13,7 +13,8 @@ use syntax::types::SignedAtom;
 use tables::table::BranchTable;
 
 impl<'b, 't, 's, 'c, 'm, 'n, B: Book, T: BranchTable> Search<'b, 't, 's, 'c, 'm, 'n, B, T> {
-    // Tells a signed atom that follows from the branch.
+    // Tells a signed atom that follows from the branch. Beside `branch`, which chooses one: the two need and leave
+    // different things.
     pub(crate) fn enforce(&mut self, l: SignedAtom) -> Result<(), Hopeless>
         requires ready { Ready B.Book T.BranchTable self.old }
         requires below { l.atom < atoms (B.counts self.old.book.now) }

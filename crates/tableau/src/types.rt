@@ -5,6 +5,8 @@ use tables::stack::{Choice, Stack};
 
 // The search at a moment: the book, the branch as it stands in the table and on the trail, the choices on it, and its
 // class table. Each reference has a lifetime of its own: only so does the check cover a call of a method of it.
+// What holds of a search is no invariant of the type: after a tell the classes are old until they are read anew, and a
+// branch may be lost. So each method says what it needs (`Ready`, `Lost`), and which clause and names it is asked of.
 #[derive(Drop)]
 pub(crate) struct Search<'b, 't, 's, 'c, 'm, 'n, B, T> {
     pub(crate) book: &'b B,
@@ -19,7 +21,7 @@ pub(crate) struct Search<'b, 't, 's, 'c, 'm, 'n, B, T> {
 pub(crate) struct Hopeless;
 
 // How an instance stands on a branch: a literal stands; all are denied; all but one, which is open;
-// more than one is open.
+// more than one is open. Four cases, two of them with an atom: no Option and no Result.
 #[derive(Clone, Copy)]
 pub(crate) enum Status {
     Fulfilled,
@@ -35,7 +37,7 @@ pub(crate) struct Span {
     pub(crate) count: u8,
 }
 
-// Where the search goes on. Nothing rests on it: whatever it says, the search is right.
+// Where the search goes on. Nothing rests on it: whatever it says, the search is right, so it is no part of `Search`.
 #[derive(Clone, Copy, Default)]
 pub(crate) struct Hints {
     // whether what is forced where nothing stands was told

@@ -3,7 +3,7 @@ ghost use Rattle.classes.specs.Pairs.{Has};
 
 use crate::pairs::Pairs;
 
-// The place of a pair.
+// The place of a pair. Leaders lie below 32, which clauses say: a type for such numbers would be turned back at once.
 fn place(a: u8, b: u8) -> usize
     requires { (a < 32) × (b < 32) }
     ensures at { result ≡ a * 32 + b }
