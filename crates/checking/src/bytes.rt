@@ -126,11 +126,7 @@ impl<'a> Candidate<'a> {
             return None;
         }
         let candidate = Candidate { counts, bytes };
-        if candidate.is_congruent() {
-            Some(candidate)
-        } else {
-            None
-        }
+        candidate.is_congruent().then_some(candidate)
     }
 }
 
