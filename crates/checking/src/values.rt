@@ -34,6 +34,7 @@ impl<'a> Candidate<'a> {
         ensures { InEach self.now.counts self.now.bytes.now (λ I. ClauseFinding self.now.counts I (slice_index_or (B.clauses book.now) i []) result) }
     {
         let ranges = Ranges::of(book, i);
+        // A `for`: as `find` over the assignments its proof did not close.
         for k in 0..ranges.size() {
             let names = ranges.nth(k);
             if !self.clause_holds(book, i, names) {

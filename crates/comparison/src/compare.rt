@@ -13,6 +13,9 @@ use syntax::types::Refusal;
 use tables::space::Space;
 use tables::table::BranchTable;
 
+// The most clauses that a book may have: with the denials of a clause, 8 at most, they are 65,535.
+const MOST_CLAUSES: usize = 65527;
+
 // Whether the comparison can be made.
 fn check<F: Book, S: Book, T: BranchTable>(
     first: &F,
@@ -30,7 +33,7 @@ fn check<F: Book, S: Book, T: BranchTable>(
     if model.len() < atom_count(counts) {
         return Err(Refusal::MemoryShort);
     }
-    if first.len() > 65527 || second.len() > 65527 {
+    if first.len() > MOST_CLAUSES || second.len() > MOST_CLAUSES {
         return Err(Refusal::TooMany);
     }
     Ok(())
@@ -58,9 +61,9 @@ fn weigh<F: Book, S: Book, T: BranchTable>(
 }
 
 // Which interpretations two books share: first only, with an interpretation that satisfies the first and not the
-// second in the first A bytes of the model memory; else second only, likewise; else equal. Refused as 5 where the counts
-// differ, then as 6, 7 or 8 where table, stacks or model memory are too small, then as 10 where a book has more
-// than 65,527 clauses. Otherwise the table is left clear.
+// second in the first A bytes of the model memory; else second only, likewise; else equal. Refused as 5 where the
+// counts differ, then as 6, 7 or 8 where table, stacks or model memory are too small, then as 10 where a book has
+// more than 65,527 clauses. Otherwise the table is left clear.
 pub fn compare<F: Book, S: Book, T: BranchTable>(
     first: &F,
     second: &S,

@@ -18,6 +18,9 @@ use tableau::branch::find_branch;
 use tables::space::Space;
 use tables::table::BranchTable;
 
+// The most clauses that a book may have, as in a comparison.
+const MOST_CLAUSES: usize = 65527;
+
 // Whether the question can be put.
 fn check<B: Book, T: BranchTable>(book: &B, l: Literal, space: &Space<'_, T>) -> Result<(), Refusal>
     ensures { result ≡ answer (ask_refusal (B.counts book.now) (B.clauses book.now) l (lent T.BranchTable space.now [])) }
@@ -27,7 +30,7 @@ fn check<B: Book, T: BranchTable>(book: &B, l: Literal, space: &Space<'_, T>) ->
         return Err(Refusal::Unlawful);
     }
     space.check_room(counts)?;
-    if book.len() > 65527 {
+    if book.len() > MOST_CLAUSES {
         return Err(Refusal::TooMany);
     }
     Ok(())
