@@ -55,7 +55,8 @@ fn parts_at<F: Book, S: Book, T: BranchTable>(
     is_consistent(judge(&layer, space, model))
 }
 
-// The same over the instances of clause i.
+// The same over the instances of clause i. A `for`: the closure of an `any` would change the space and the model memory,
+// and of what a closure changes there a proof learns nothing.
 fn parts_instances<F: Book, S: Book, T: BranchTable>(
     one: &F,
     other: &S,
@@ -93,7 +94,7 @@ fn parts_clause<F: Book, S: Book, T: BranchTable>(
     !stands_in(one, other, i) && parts_instances(one, other, i, space, model)
 }
 
-// Whether some interpretation satisfies the one book and not the other, which is then written.
+// Whether some interpretation satisfies the one book and not the other, which is then written. A `for`, as above.
 pub(crate) fn parts<F: Book, S: Book, T: BranchTable>(
     one: &F,
     other: &S,

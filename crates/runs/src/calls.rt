@@ -17,7 +17,8 @@ pub enum Call<'a, B> {
     CompareSecond(&'a B),
 }
 
-// What a call answered: done or refused, for enter and strike; else its answer.
+// What a call answered: done or refused, for enter and strike; else its answer. Each case has a Result of its own, so that
+// a refusal still says which kind of call it answers.
 #[derive(Clone, Copy)]
 pub enum Answer {
     Changed(Result<(), Refusal>),

@@ -38,7 +38,8 @@ fn act<'a, B: Book, T: BranchTable>(
 }
 
 // Carries out the calls in order, and writes each answer into the journal; ends with the list, or where the journal is
-// full. Answers how many calls were done. The journal past them stays as it was.
+// full. Answers how many calls were done. The journal past them stays as it was. It is written by index: of what
+// `iter_mut` lends a proof knows the length alone.
 pub fn perform<'a, B: Book, T: BranchTable>(
     book: &mut WorkingBook,
     calls: &[Call<'a, B>],

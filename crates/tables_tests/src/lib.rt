@@ -12,7 +12,7 @@ mod tests {
     use tables::stack::{Choice, Stack};
     use tables::table::BranchTable;
 
-    // A call with what it answers.
+    // A call with what it answers: a table of cases that is run at either kind of table.
     #[derive(Clone, Copy)]
     enum Step {
         Reach(usize),
