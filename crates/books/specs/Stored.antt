@@ -12,11 +12,11 @@ use Rattle.syntax.specs.declared.counts.Counts.{Counts}
 use Rattle.syntax.specs.Lawful.{Lawful, LawfulTerm, LawfulLiteral, AtomBy}
 
 -- the lists that they mean
-abbrev pub stored : ArrayVec (ArrayVec Literal) → List (List Literal)
-stored xs = map (λ x. x.items) xs.items
+abbrev pub stored : List (ArrayVec Literal) → List (List Literal)
+stored xs = map (λ x. x.items) xs
 
 -- each is lawful
-abbrev pub LawfulStored : Counts → ArrayVec (ArrayVec Literal) → Type 0
+abbrev pub LawfulStored : Counts → List (ArrayVec Literal) → Type 0
 LawfulStored c xs = AllByRecursion (Lawful c) (stored xs)
 
 -- and there is one proof of that at most
@@ -33,5 +33,5 @@ lawful_prop : (c : Counts) (cl : List Literal) → IsProp (Lawful c cl)
 lawful_prop c cl x y i =
     record { some = le_prop x.some y.some i; few = le_prop x.few y.few i; each = AllByRecursion-prop (LawfulLiteral c) (λ l. atom_prop c l.atom) cl x.each y.each i }
 
-pub LawfulStored-prop : (c : Counts) (xs : ArrayVec (ArrayVec Literal)) → IsProp (LawfulStored c xs)
+pub LawfulStored-prop : (c : Counts) (xs : List (ArrayVec Literal)) → IsProp (LawfulStored c xs)
 LawfulStored-prop c xs = AllByRecursion-prop (Lawful c) (lawful_prop c) (stored xs)

@@ -1,6 +1,6 @@
 -- The working book: what it means, and what its calls do.
 use Rattle.std.specs.Prelude.{◌≡◌, ℕ, ◌<◌, ◌≤◌, ◌⊎◌, List, [], ◌∷◌, ◌++◌, length, take, Ok, Err, Result}
-use Rattle.std.proofs.Common.{arith}
+use Rattle.std.proofs.Common.{arith, length-take}
 use Rattle.std.proofs.lemmas.List.{length-map}
 use Rattle.std.specs.List.{AllByRecursion}
 use Rattle.syntax.specs.declared.types.Literal.{Literal}
@@ -14,7 +14,7 @@ use Rattle.books.specs.Stored.{stored}
 
 -- the standing clauses: what was entered and not struck, in order
 abbrev pub standing_of : WorkingBook → List (List Literal)
-standing_of b = stored b.clauses
+standing_of b = stored (take b.len b.clauses)
 
 -- the clauses that it means as a book: all that stand
 abbrev pub clauses_of : WorkingBook → List (List Literal)
@@ -42,4 +42,4 @@ pub working_lawful : (b : WorkingBook) → AllByRecursion (Lawful b.counts) (cla
 working_lawful b = b.lawful
 
 pub working_few : (b : WorkingBook) → length (clauses_of b) ≤ 65535
-working_few b = simp length-map (omega (arith, b.few))
+working_few b = simp (length-map, length-take) (omega arith)

@@ -1,6 +1,7 @@
-// The working book: at most 256 clauses, each lawful at the counts.
-ghost use Rattle.std.specs.Prelude.{◌≤◌, length};
-ghost use Rattle.arrayvec.specs.ArrayVec.{array_vec_len};
+// The working book: of 256 places the first `len` count, and each of those holds a clause that is
+// lawful at the counts. An array with a length, since an ArrayVec of clauses writes over each clause
+// that is struck.
+ghost use Rattle.std.specs.Prelude.{◌≡◌, ◌≤◌, length, take};
 ghost use Rattle.books.specs.Stored.{LawfulStored, LawfulStored-prop};
 
 use arrayvec::ArrayVec;
@@ -12,7 +13,9 @@ pub mod calls;
 #[derive(Drop)]
 pub struct WorkingBook {
     counts: Counts,
-    clauses: ArrayVec<ArrayVec<Literal, 8>, 256>,
-    ghost few: { array_vec_len clauses ≤ 256 },
-    ghost lawful: { LawfulStored counts clauses } by { LawfulStored-prop counts clauses },
+    clauses: [ArrayVec<Literal, 8>; 256],
+    len: usize,
+    ghost fits: { len ≤ 256 },
+    ghost whole: { length clauses ≡ 256 },
+    ghost lawful: { LawfulStored counts (take len clauses) } by { LawfulStored-prop counts (take len clauses) },
 }

@@ -96,9 +96,10 @@ impl<B: Book> Supposition<B> {
         if !is_ground_literal(self.below.counts(), l) {
             return Err(Refusal::Unlawful);
         }
-        if self.len() == 65535 {
+        if self.literals.is_full() || self.len() == 65535 {
             return Err(Refusal::TooMany);
         }
-        self.literals.try_push(l).map_err(|_| Refusal::TooMany)
+        self.literals.push(l);
+        Ok(())
     }
 }

@@ -7,6 +7,7 @@ ghost use Rattle.books.specs.Working.{standing_of, clauses_of, working_lawful, w
 use crate::book::Book;
 use crate::working::WorkingBook;
 use arrayvec::ArrayVec;
+use std::array;
 use syntax::counts::Counts;
 use syntax::lawful::is_lawful_clause;
 use syntax::types::{Literal, Refusal};
@@ -19,7 +20,8 @@ impl WorkingBook {
     {
         WorkingBook {
             counts: Counts::new(1, 0, 0).unwrap(),
-            clauses: ArrayVec::new(),
+            clauses: array::from_fn(|_| ArrayVec::new()),
+            len: 0,
         }
     }
 
@@ -29,7 +31,7 @@ impl WorkingBook {
         ensures kept { UnlessRefused self.old self.new result }
     {
         self.counts = Counts::new(names, properties, relations)?;
-        self.clauses.clear();
+        self.len = 0;
         Ok(())
     }
 
@@ -42,8 +44,12 @@ impl WorkingBook {
         if !is_lawful_clause(self.counts, literals) {
             return Err(Refusal::Unlawful);
         }
-        let clause = ArrayVec::try_from(literals).unwrap();
-        self.clauses.try_push(clause).map_err(|_| Refusal::BookFull)
+        if self.len == 256 {
+            return Err(Refusal::BookFull);
+        }
+        self.clauses[self.len] = ArrayVec::try_from(literals).unwrap();
+        self.len += 1;
+        Ok(())
     }
 
     // Keeps the first k clauses; refused as 4 where fewer stand.
@@ -52,10 +58,10 @@ impl WorkingBook {
         ensures done { Struck (standing_of self.old) k result (standing_of self.new) }
         ensures kept { UnlessRefused self.old self.new result }
     {
-        if k > self.clauses.len() {
+        if k > self.len {
             return Err(Refusal::StrikeAbove);
         }
-        self.clauses.truncate(k);
+        self.len = k;
         Ok(())
     }
 }
@@ -74,14 +80,14 @@ impl Book for WorkingBook {
     }
 
     fn len(&self) -> usize {
-        self.clauses.len()
+        self.len
     }
 
     fn literals(&self, i: usize) -> Option<usize> {
-        Some(self.clauses.get(i)?.len())
+        Some(self.clauses[..self.len].get(i)?.len())
     }
 
     fn literal(&self, i: usize, j: usize) -> Option<Literal> {
-        self.clauses.get(i)?.get(j).copied()
+        self.clauses[..self.len].get(i)?.get(j).copied()
     }
 }

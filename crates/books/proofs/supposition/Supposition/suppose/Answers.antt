@@ -16,5 +16,5 @@ returns-clause-done g c =
     let test = ap (λ q. ground_literal q c.args.l) (sym c.counts.ensures) ∙ ground_is c.counts.result c.args.l _ c.is_ground_literal.ensures ∙ c.if-not-is_ground_literal.false in
     let few = laid_few (g.B.Book.clauses b) (units (g.B.Book.counts b) (own_of s)) (g.B.Book.few b) in
     let room : length (laid (g.B.Book.clauses b) (units (g.B.Book.counts b) (own_of s))) < 65535 = omega (arith, c.len.ensures) in
-    let more = units_more (g.B.Book.clauses b) (g.B.Book.counts b) (own_of s) c.try_push.new.self.items c.args.l in
+    let more = units_more (g.B.Book.clauses b) (g.B.Book.counts b) (own_of s) c.push.new.self.items c.args.l in
     search rules
