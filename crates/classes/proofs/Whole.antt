@@ -1,5 +1,5 @@
 -- The whole clash test, symbol by symbol.
-use Rattle.std.proofs.Common.{ℕ, ◌<◌, Bool, Decides, sym, refl, ◌∙◌, subst, ⊎_elim, arith}
+use Rattle.std.proofs.Common.{◌≡◌, ℕ, ◌<◌, Bool, Decides, sym, refl, ◌∙◌, subst, ⊎_elim, arith}
 use Rattle.std.proofs.lemmas.List.{get_or_past}
 use Rattle.std.proofs.lemmas.Bool.{cases_lt}
 use Rattle.std.proofs.lemmas.Bool.Decides.{Decides-like}
@@ -11,7 +11,7 @@ use Rattle.classes.specs.declared.pairs.Pairs.{Pairs}
 use Rattle.classes.specs.declared.symbol.Symbol.{Symbol}
 use Rattle.classes.specs.declared.symbol.Symbol.TheVariants.{Same as Same', Prop as Prop', Rel as Rel'}
 use Rattle.classes.specs.Pairs.{Has}
-use Rattle.classes.specs.Symbols.{Found, Holding, LawfulSymbol, SymbolClash, View, symbol_at, symbols}
+use Rattle.classes.specs.Symbols.{Found, Holding, LawfulSymbol, MeetsRow, SymbolClash, View, symbol_at, symbols}
 use Rattle.classes.specs.Clashes.{ClashBy, same_no, prop_both, rel_both}
 use Rattle.classes.proofs.Clashing.{by_in, by_out}
 use Rattle.classes.proofs.Listing.{listed, listed_lawful}
@@ -57,3 +57,14 @@ symbol_clash v s r one two holding found =
     Decides-like r
     (λ (p, q, h, k). (p, q, (holding p q).0 h, (found p q).0 k))
     (λ (p, q, h, k). (p, q, (holding p q).1 h, (found p q).1 k))
+
+-- a name stands no beside one with its own leader
+pub same_clash :
+    (v : View) (s : Symbol) (r : Bool) → ((a : ℕ) → v.leader a < 32) → s ≡ Same' →
+    Decides r ((x : ℕ) × (x < v.counts.names) × MeetsRow v s No x (v.leader x)) → Decides r (SymbolClash v s)
+same_clash v Same' r small e =
+    Decides-like r
+    (λ (x, h, row). (v.leader x, v.leader x, (refl, small x), (x, h, (refl, row))))
+    (λ (p, q, (one, k), (x, h, (f, row))). (x, h, subst (MeetsRow v Same' No x) (sym (f ∙ one)) row))
+same_clash v (Prop' p) r small e = absurd (grind arith)
+same_clash v (Rel' p) r small e = absurd (grind arith)

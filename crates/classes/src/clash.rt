@@ -61,7 +61,18 @@ impl<'a, T: BranchTable> Classed<'a, T> {
         requires { LawfulSymbol self.now.counts symbol }
         ensures { Decides result (SymbolClash (view T.marks self.now) symbol) }
     {
-        self.holding(symbol).shares(&self.found(symbol, Mark::No))
+        match symbol {
+            // Two names are one thing there where their leaders are one: the other pairs are not looked at.
+            Symbol::Same => (0..self.counts.names()).any(|x| self.row_meets(
+                symbol,
+                x,
+                self.classes.leader(x),
+                Mark::No,
+            )),
+            Symbol::Prop(_) | Symbol::Rel(_) => {
+                self.holding(symbol).shares(&self.found(symbol, Mark::No))
+            }
+        }
     }
 
     // Whether the branch clashes, anywhere.

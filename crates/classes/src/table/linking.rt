@@ -35,7 +35,10 @@ fn join_row<T: BranchTable>(counts: Counts, table: &T, leaders: &mut [u8], a: u8
     ensures joined { Joined counts (T.marks table.now) leaders.new a counts.names }
 {
     for b in 0..counts.names() {
-        if mark_of(counts, table, Ground::Same(a, b)) == Mark::Yes {
+        // Where the leaders are one there is nothing to join, and the table is not asked.
+        if leaders[usize::from(a)] != leaders[usize::from(b)]
+            && mark_of(counts, table, Ground::Same(a, b)) == Mark::Yes
+        {
             join(leaders, a, b);
         }
     }
