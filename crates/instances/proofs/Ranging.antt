@@ -1,5 +1,5 @@
 -- The assignments that ranges give: within them, all of them, and in order.
-use Rattle.std.proofs.Common.{◌≡◌, ℕ, zero, suc, ◌+◌, ◌*◌, ◌/◌, ◌%◌, ◌<◌, ◌≤◌, sym, ap, ◌∙◌, subst, arith}
+use Rattle.std.proofs.Common.{◌≡◌, ℕ, zero, suc, [], ◌∷◌, ◌+◌, ◌*◌, ◌/◌, ◌%◌, ◌<◌, ◌≤◌, sym, ap, ◌∙◌, subst, arith}
 use lib.Arith.{digits_lt}
 use Rattle.std.proofs.lemmas.Nat.{mul-le, div-mul-add, mod-mul-add, div-add-mod', div_below, mod_below}
 use Rattle.std.proofs.lemmas.Bool.{cond_both}
@@ -23,6 +23,17 @@ last_lower {a} {b} {i} {j} n e l = let d : a * n ≡ b * n = ap (λ m. m * n) e 
 
 small : (n m : ℕ) → n < m → n % m ≡ n
 small n m h = let e : n ≡ 0 * m + n = omega arith in ap (λ k. k % m) e ∙ mod-mul-add 0 m n h
+
+-- one more, where the digit does not overflow and where it does
+goes : (k n : ℕ) → k % n + 1 < n → ((k + 1) % n ≡ k % n + 1) × ((k + 1) / n ≡ k / n)
+goes k n h =
+    let e : k + 1 ≡ k / n * n + (k % n + 1) = omega (arith, div-add-mod' k n) in
+    (ap (λ m. m % n) e ∙ mod-mul-add (k / n) n (k % n + 1) h, ap (λ m. m / n) e ∙ div-mul-add (k / n) n (k % n + 1) h)
+
+turns : (k n : ℕ) → 1 ≤ n → n ≤ k % n + 1 → ((k + 1) % n ≡ 0) × ((k + 1) / n ≡ k / n + 1)
+turns k n some h =
+    let e : k + 1 ≡ (k / n + 1) * n + 0 = omega (arith, div-add-mod' k n, mod_below k n some) in
+    (ap (λ m. m % n) e ∙ mod-mul-add (k / n + 1) n 0 some, ap (λ m. m / n) e ∙ div-mul-add (k / n + 1) n 0 some)
 
 module _ (r : Ranges) where
   abbrev x : ℕ
@@ -53,6 +64,34 @@ module _ (r : Ranges) where
     within (suc (suc zero)) h = mod_below (k / w) z (r.each 2 h).0
     within (suc (suc (suc zero))) h = mod_below k w (r.each 3 h).0
     within (suc (suc (suc (suc v)))) h = absurd (omega arith)
+
+    -- the next assignment, by the digit that is raised
+    pub raised_w : k % w + 1 < w → nth_assignment r (k + 1) ≡ k / w / z / y % x ∷ k / w / z % y ∷ k / w % z ∷ (k % w + 1) ∷ []
+    raised_w h = cc ((goes k w h).0, (goes k w h).1)
+
+    module _ (over_w : w ≤ k % w + 1) where
+      past_w : ((k + 1) % w ≡ 0) × ((k + 1) / w ≡ k / w + 1)
+      past_w = turns k w (r.each 3 (omega arith)).0 over_w
+
+      pub raised_z : k / w % z + 1 < z → nth_assignment r (k + 1) ≡ k / w / z / y % x ∷ k / w / z % y ∷ (k / w % z + 1) ∷ 0 ∷ []
+      raised_z h = cc (past_w.0, past_w.1, (goes (k / w) z h).0, (goes (k / w) z h).1)
+
+      module _ (over_z : z ≤ k / w % z + 1) where
+        past_z : ((k / w + 1) % z ≡ 0) × ((k / w + 1) / z ≡ k / w / z + 1)
+        past_z = turns (k / w) z (r.each 2 (omega arith)).0 over_z
+
+        pub raised_y : k / w / z % y + 1 < y → nth_assignment r (k + 1) ≡ k / w / z / y % x ∷ (k / w / z % y + 1) ∷ 0 ∷ 0 ∷ []
+        raised_y h = cc (past_w.0, past_w.1, past_z.0, past_z.1, (goes (k / w / z) y h).0, (goes (k / w / z) y h).1)
+
+        module _ (over_y : y ≤ k / w / z % y + 1) where
+          past_y : ((k / w / z + 1) % y ≡ 0) × ((k / w / z + 1) / y ≡ k / w / z / y + 1)
+          past_y = turns (k / w / z) y (r.each 1 (omega arith)).0 over_y
+
+          pub raised_x : k / w / z / y % x + 1 < x → nth_assignment r (k + 1) ≡ (k / w / z / y % x + 1) ∷ 0 ∷ 0 ∷ 0 ∷ []
+          raised_x h = cc (past_w.0, past_w.1, past_z.0, past_z.1, past_y.0, past_y.1, (goes (k / w / z / y) x h).0)
+
+          pub anew : x ≤ k / w / z / y % x + 1 → nth_assignment r (k + 1) ≡ 0 ∷ 0 ∷ 0 ∷ 0 ∷ []
+          anew h = cc (past_w.0, past_w.1, past_z.0, past_z.1, past_y.0, past_y.1, (turns (k / w / z / y) x (r.each 0 (omega arith)).0 h).0)
 
   -- the place of an assignment
   abbrev place : Assignment → ℕ

@@ -1,5 +1,5 @@
 -- The assignments of a clause's own variables, and in which order they are gone through.
-use Rattle.std.specs.Prelude.{◌≡◌, ℕ, ◌*◌, ◌/◌, ◌%◌, ◌<◌, ◌≤◌, min, max, cond, not, List, [], ◌∷◌, Some, None, Option, slice_index}
+use Rattle.std.specs.Prelude.{◌≡◌, ℕ, ◌*◌, ◌/◌, ◌%◌, ◌<◌, ◌≤◌, min, max, cond, nat_lt, ◌+◌, ◌-◌, not, List, [], ◌∷◌, Some, None, Option, slice_index}
 use Rattle.syntax.specs.declared.types.Literal.{Literal}
 use Rattle.syntax.specs.declared.counts.Counts.{Counts}
 use Rattle.syntax.specs.Numbers.{atom_of}
@@ -37,6 +37,18 @@ nth_assignment r k =
     let z = slice_index r.most 2 in
     let w = slice_index r.most 3 in
     k / w / z / y % slice_index r.most 0 ∷ k / w / z % y ∷ k / w % z ∷ k % w ∷ []
+
+-- the names after these: the last variable that has a further name takes it, and those behind it begin anew
+abbrev pub next_names : Ranges → List ℕ → List ℕ
+next_names r n =
+    let x = slice_index n 0 in
+    let y = slice_index n 1 in
+    let z = slice_index n 2 in
+    let w = slice_index n 3 in
+    cond (nat_lt w (slice_index r.most 3 - 1)) (x ∷ y ∷ z ∷ (w + 1) ∷ [])
+    (cond (nat_lt z (slice_index r.most 2 - 1)) (x ∷ y ∷ (z + 1) ∷ 0 ∷ [])
+    (cond (nat_lt y (slice_index r.most 1 - 1)) (x ∷ (y + 1) ∷ 0 ∷ 0 ∷ [])
+    (cond (nat_lt x (slice_index r.most 0 - 1)) ((x + 1) ∷ 0 ∷ 0 ∷ 0 ∷ []) (0 ∷ 0 ∷ 0 ∷ 0 ∷ []))))
 
 -- nothing past the last
 abbrev pub NthNames : Ranges → ℕ → Option (List ℕ) → Type 0

@@ -1,12 +1,13 @@
 // The assignments of a clause's own variables, in order.
-ghost use Rattle.std.specs.Prelude.{◌≡◌, ◌%◌, ◌≤◌, [], slice_index_or};
+ghost use Rattle.std.specs.Prelude.{◌≡◌, ℕ, ◌+◌, ◌%◌, ◌≤◌, [], slice_index_or};
 ghost use Rattle.semantics.specs.Checks.{term_use, atom_use, uses as uses_by};
-ghost use Rattle.instances.specs.Assignments.{range as range_by, RunsThrough, Capped, size as size_by, nth_assignment, NthNames, EachAssigns, EachReached, EachLater};
+ghost use Rattle.instances.specs.Assignments.{range as range_by, RunsThrough, Capped, size as size_by, next_names, nth_assignment, NthNames, EachAssigns, EachReached, EachLater};
 
 use crate::ranges::Ranges;
 use books::book::Book;
 use std::array;
-use syntax::types::{Atom, Term};
+use syntax::counts::Counts;
+use syntax::types::{Atom, Literal, Term};
 
 fn term_uses(v: u8, term: Term) -> bool
     ensures { result ≡ term_use v term }
@@ -44,6 +45,13 @@ fn range<B: Book>(book: &B, i: usize, v: u8) -> u8
     }
 }
 
+// Whether a clause of these literals uses the variable.
+fn uses_in(literals: &[Literal], v: u8) -> bool
+    ensures { result ≡ uses_by v literals.now }
+{
+    literals.iter().any(|l| atom_uses(v, l.atom))
+}
+
 // k modulo n, with no division where k is lower already.
 fn wrapped(k: usize, n: usize) -> usize
     requires { 1 ≤ n }
@@ -63,7 +71,20 @@ impl Ranges {
         }
     }
 
-    // The same, but each variable v through `most[v]` names at most, and through 1 at least.
+    // The same of a clause of these literals.
+    pub fn of_literals(counts: Counts, literals: &[Literal]) -> Ranges
+        ensures { RunsThrough counts literals.now result }
+    {
+        Ranges {
+            most: [0, 1, 2, 3].map(|v| if uses_in(literals, v) {
+                counts.names()
+            } else {
+                1
+            }),
+        }
+    }
+
+    // These, but each variable v through `most[v]` names at most, and through 1 at least.
     pub fn capped(self, most: [u8; 4]) -> Ranges
         ensures { Capped self most result }
     {
@@ -92,6 +113,27 @@ impl Ranges {
             (k / w % z) as u8,
             (k % w) as u8,
         ]
+    }
+
+    // The names after these; after those of the k-th, those of the next. It spares a walk the divisions of `nth`.
+    pub fn after(self, names: [u8; 4]) -> [u8; 4]
+        ensures is { result ≡ next_names self names }
+        ensures next { (k : ℕ) → names ≡ nth_assignment self k → result ≡ nth_assignment self (k + 1) }
+    {
+        let [x, y, z, w] = names;
+        if w < self.most[3] - 1 {
+            return [x, y, z, w + 1];
+        }
+        if z < self.most[2] - 1 {
+            return [x, y, z + 1, 0];
+        }
+        if y < self.most[1] - 1 {
+            return [x, y + 1, 0, 0];
+        }
+        if x < self.most[0] - 1 {
+            return [x + 1, 0, 0, 0];
+        }
+        [0; 4]
     }
 
     // The k-th of them; nothing past the last.
