@@ -1,8 +1,8 @@
 -- Two clauses compared literal by literal, and a clause looked for in a list.
-use Rattle.std.proofs.Common.{◌≡◌, ℕ, zero, suc, ◌<◌, ◌≤◌, Bool, true, false, List, [], ◌∷◌, length, get_or, Some, None, Decides, Option, sym, refl, ap, ap₂, ◌∙◌, subst, arith}
+use Rattle.std.proofs.Common.{◌≡◌, ℕ, zero, suc, ◌<◌, ◌≤◌, Bool, true, false, not, List, [], ◌∷◌, length, get_or, Some, None, Decides, Option, sym, refl, ap, ap₂, ◌∙◌, subst, arith}
 use Rattle.std.specs.Bool.{MatchBool}
 use Rattle.std.specs.List.{AllByRecursion, AllWithin, HoldsAt, ContainsAt, range_with_len, slice_get}
-use Rattle.std.specs.Option.{option_eq}
+use Rattle.std.specs.Option.{is_some, option_eq}
 use Rattle.std.proofs.ByRecursion.{has_get_or}
 use Rattle.std.proofs.lemmas.Bool.{false≢true}
 use Rattle.std.proofs.lemmas.List.FromFn.{get_or-range_with_len, length-range_with_len}
@@ -20,8 +20,14 @@ options_decided None (Some y) r e = (λ t. absurd (grind arith), λ i. absurd (g
 options_decided (Some x) None r e = (λ t. absurd (grind arith), λ i. absurd (grind arith))
 options_decided (Some x) (Some y) r e = let d = literals_decided x y r e in (λ t. ap Some (d.0 t), λ i. d.1 (cc))
 
-pub places_decided : (a b x y : Option Literal) (r : Bool) → a ≡ x → b ≡ y → r ≡ option_eq literal.eq a b → Decides r (x ≡ y)
-places_decided a b x y r ea eb e = let d = options_decided a b r e in (λ t. sym ea ∙ d.0 t ∙ eb, λ i. d.1 (ea ∙ i ∙ sym eb))
+pub places_told : (a b x y : Option Literal) (r : Bool) → a ≡ x → b ≡ y → r ≡ not (option_eq literal.eq a b) → (r ≡ false → x ≡ y) × (x ≡ y → r ≡ false)
+places_told a b x y r ea eb e =
+    let d = options_decided a b (option_eq literal.eq a b) refl in
+    (λ t. sym ea ∙ d.0 (not_false _ (sym e ∙ t)) ∙ eb, λ i. e ∙ ap not (d.1 (ea ∙ i ∙ sym eb)))
+  where
+    not_false : (t : Bool) → not t ≡ false → t ≡ true
+    not_false true f = refl
+    not_false false f = absurd (false≢true (sym f))
 
 -- clauses that agree at their first n places, and have no more, are one
 by_places : (n : ℕ) (xs ys : Clause) → length xs ≤ n → length ys ≤ n → ((j : ℕ) → j < n → slice_get xs j ≡ slice_get ys j) → xs ≡ ys
@@ -43,14 +49,18 @@ eight c (cl ∷ cs) (suc i) h = eight c cs i h.1
 nth_of : (n j : ℕ) → j < n → get_or (range_with_len 0 n) j 0 ≡ j
 nth_of n j lt = get_or-range_with_len 0 n j 0 lt ∙ omega arith
 
-pub same_clause :
-    (xs ys : Clause) (r : Bool) → length xs ≤ 8 → length ys ≤ 8 →
-    MatchBool r (AllWithin (λ j. slice_get xs j ≡ slice_get ys j) (range_with_len 0 8) 0 8) ((k : ℕ) × (k < 8) × HoldsAt (λ j. slice_get xs j ≡ slice_get ys j → ⊥) (range_with_len 0 8) k) →
-    Decides r (xs ≡ ys)
-same_clause xs ys true h k all =
-    (λ _. by_places 8 xs ys h k (λ j lt. subst (λ (i : ℕ). slice_get xs i ≡ slice_get ys i) (nth_of 8 j lt) (all j 0 (omega arith) lt)), λ _. refl)
-same_clause xs ys false h k found =
-    (λ e. absurd (false≢true e), λ e. absurd (found.2 0 (ap (λ (zs : Clause). slice_get zs (get_or (range_with_len 0 8) found.0 0)) e)))
+-- two clauses that agree at their first n places, and both end there
+pub ended : (n : ℕ) (xs ys : Clause) → is_some (slice_get xs n) ≡ false → slice_get xs n ≡ slice_get ys n → ((j : ℕ) → j < n → slice_get xs j ≡ slice_get ys j) → xs ≡ ys
+ended n xs ys none one same = by_places n xs ys (past xs n none) (past ys n (ap is_some (sym one) ∙ none)) same
+  where
+    past : (zs : Clause) (m : ℕ) → is_some (slice_get zs m) ≡ false → length zs ≤ m
+    past [] m e = omega arith
+    past (z ∷ zs) zero e = absurd (false≢true (sym e))
+    past (z ∷ zs) (suc m) e = omega (arith, past zs m e)
+
+-- and that agree at eight
+pub same_clause : (xs ys : Clause) → length xs ≤ 8 → length ys ≤ 8 → ((j : ℕ) → j < 8 → slice_get xs j ≡ slice_get ys j) → xs ≡ ys
+same_clause xs ys h k same = by_places 8 xs ys h k same
 
 -- a clause was looked for among the clauses
 pub stands :

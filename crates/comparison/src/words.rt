@@ -1,22 +1,24 @@
 // Whether a clause of one book stands word for word in another.
 ghost use Rattle.std.specs.Prelude.{◌≡◌, ◌<◌, [], length, Decides, slice_index_or};
 ghost use Rattle.std.specs.List.{ContainsAt};
-ghost use Rattle.books.specs.Lists.{literal_at};
 
 use books::book::Book;
 
-// Whether literal j of clause k of the one book is literal j of clause i of the other, or neither is there.
-fn is_literal<F: Book, S: Book>(one: &F, k: usize, other: &S, i: usize, j: usize) -> bool
-    ensures { Decides result (literal_at (F.clauses one.now) k j ≡ literal_at (S.clauses other.now) i j) }
-{
-    one.literal(k, j) == other.literal(i, j)
-}
-
-// Whether clause k of the one book is clause i of the other: no clause has more than 8 literals.
+// Whether clause k of the one book is clause i of the other: no clause has more than 8 literals. A `for`: it ends where
+// both clauses do, and an `all` over the eight places asks for those beyond too.
 fn is_clause<F: Book, S: Book>(one: &F, k: usize, other: &S, i: usize) -> bool
     ensures { Decides result (slice_index_or (F.clauses one.now) k [] ≡ slice_index_or (S.clauses other.now) i []) }
 {
-    (0..8).all(|j| is_literal(one, k, other, i, j))
+    for j in 0..8 {
+        let l = one.literal(k, j);
+        if l != other.literal(i, j) {
+            return false;
+        }
+        if l.is_none() {
+            return true;
+        }
+    }
+    true
 }
 
 // Whether clause i of the other book is a clause of the one.
