@@ -1,6 +1,7 @@
 -- Lines counted by their ends.
-use Rattle.std.proofs.Common.{◌≡◌, ℕ, ◌+◌, ◌-◌, Bool, true, false, not, cond, List, [], ◌∷◌, length, count_by, ◌==◌, Option, None, Some, slice_get, refl, ap, ◌∙◌, arith}
+use Rattle.std.proofs.Common.{◌≡◌, ℕ, ◌+◌, ◌-◌, ◌<◌, ◌≤◌, get_or, take, Bool, true, false, not, cond, List, [], ◌∷◌, length, count_by, ◌==◌, Option, None, Some, slice_get, refl, ap, ◌∙◌, arith}
 use Rattle.std.proofs.lemmas.List.Recursion.{is_count_by}
+use Rattle.std.proofs.lemmas.List.Sums.{count_by_more_yes, count_by_more_no}
 use Rattle.listing.specs.Intake.{lines, lines_left}
 
 abbrev ends : List ℕ → ℕ
@@ -39,3 +40,15 @@ pub lines_counted : (text : List ℕ) → count_by (λ (b : ℕ). b == 10) text 
 lines_counted text =
     let more = ap {B = ℕ} (λ (o : Bool). cond o 1 0) (last_open text) in
     omega (arith, more, by_ends false text, is_count_by ends (λ (b : ℕ). b == 10) refl (λ _ _. refl) text)
+
+-- the test of one byte more is added to the count, and is 1 at most
+pub one_more :
+    (text : List ℕ) (i k : ℕ) → i < length text → k ≡ cond (get_or text i 0 == 10) 1 0 →
+    (k ≤ 1) × (count_by (λ (b : ℕ). b == 10) (take i text) + k ≡ count_by (λ (b : ℕ). b == 10) (take (i + 1) text))
+one_more text i k h = by_test (get_or text i 0 == 10) refl
+  where
+    by_test :
+        (t : Bool) → (get_or text i 0 == 10) ≡ t → k ≡ cond t 1 0 →
+        (k ≤ 1) × (count_by (λ (b : ℕ). b == 10) (take i text) + k ≡ count_by (λ (b : ℕ). b == 10) (take (i + 1) text))
+    by_test true e f = (omega arith, omega (arith, count_by_more_yes (λ (b : ℕ). b == 10) text i 0 h e))
+    by_test false e f = (omega arith, omega (arith, count_by_more_no (λ (b : ℕ). b == 10) text i 0 h e))

@@ -18,7 +18,11 @@ pub fn take_in(text: &[u8]) -> Result<Intake, Refusal>
         return Err(Refusal::TextFault(Place::default()));
     }
     // Byte 10 ends a line; a last line without it counts too.
-    let ends = text.iter().filter(|b| **b == b'\n').count();
+    let mut ends = 0;
+    // A `for`: as `filter` and `count` it takes almost twice the instructions.
+    for b in text {
+        ends += usize::from(*b == b'\n');
+    }
     let begun = text.last().is_some_and(|b| *b != b'\n');
     Ok(Intake {
         bytes: text.len(),
