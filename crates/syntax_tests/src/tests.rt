@@ -3,7 +3,7 @@ use syntax::codes::{decode_literal, encode_literal};
 use syntax::counts::Counts;
 use syntax::lawful::{is_ground_literal, is_lawful_clause};
 use syntax::numbers::{atom_at, atom_count, atom_number};
-use syntax::types::{Atom, Ground, Literal, Term};
+use syntax::types::{Atom, Ground, Literal, Place, Refusal, Term};
 
 const LITERALS: [(Literal, [u8; 5]); 6] = [
     (
@@ -144,5 +144,37 @@ fn numbers(rt: HostRuntime) -> Result<(), Fail> {
         }
     }
     assert!(rt; atom_at(counts, 24).is_none());
+    Ok(())
+}
+
+// The numbers by which calls refuse, as docs/RULES.md lists them.
+#[test]
+fn causes(rt: HostRuntime) -> Result<(), Fail> {
+    let place = Place { line: 2, word: 3 };
+    let refusals = [
+        (Refusal::Limits, 1),
+        (Refusal::LimitsAt(place), 1),
+        (Refusal::Unlawful, 2),
+        (Refusal::BookFull, 3),
+        (Refusal::BookFullAt(place), 3),
+        (Refusal::StrikeAbove, 4),
+        (Refusal::CountsDiffer, 5),
+        (Refusal::TableSmall, 6),
+        (Refusal::StackSmall, 7),
+        (Refusal::MemoryShort, 8),
+        (Refusal::NotInterpretation, 9),
+        (Refusal::TooMany, 10),
+        (Refusal::FileLength, 11),
+        (Refusal::BlockCheck(4), 12),
+        (Refusal::BlockLayout(4), 13),
+        (Refusal::TextFault(place), 14),
+        (Refusal::BeyondReach, 15),
+        (Refusal::Standing, 16),
+        (Refusal::TableFull, 17),
+        (Refusal::NotStanding, 18),
+    ];
+    for (refusal, number) in refusals {
+        assert_eq!(rt; refusal.cause(), number);
+    }
     Ok(())
 }
